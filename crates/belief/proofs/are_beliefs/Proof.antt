@@ -1,0 +1,88 @@
+-- `belief::are_beliefs` meets its contract. The loop's invariant: the rules for what is left decide as for the whole.
+use Prim.Native.Nat.{_-_, _≤_}
+use mathlib.Core.Path.{_≡_, refl, sym, _∙_}
+use native.Mathlib.Omega.{arith}
+use borrow.Author.Needs.{needs}
+use borrow.Author.Tests.{not-true, not-false}
+use lib.ListN.{length, take, drop, length-take}
+use Rattle.lists.proofs.ArrayLaws.{length-mapped}
+use Rattle.belief.specs.Beliefs.{areSound}
+use Rattle.belief.proofs.TableSteps.{sound-variable, sound-repeated, sound-next, sound-end}
+use Rattle.belief.proofs.are_beliefs.Statement.{statement}
+use Rattle.belief.proofs.are_beliefs.Tie as tie
+
+abbrev Inv-loop : tie.InvT-loop
+Inv-loop n items i₀ i = (i ≤ n) × (areSound (drop i (take n items)) ≡ areSound (take n items))
+
+abbrev μ-loop : tie.MeasureT-loop
+μ-loop n items i₀ i = n - i
+
+loop-holds : tie.Need-loop-holds Inv-loop μ-loop
+loop-holds c = (omega arith, refl)
+
+mul-item : tie.Need-mul-item Inv-loop μ-loop
+mul-item c = search needs
+
+array-copy-out-item : tie.Need-array-copy-out-item Inv-loop μ-loop
+array-copy-out-item c = search needs
+
+add-i : tie.Need-add-i Inv-loop μ-loop
+add-i c = search needs
+
+is-ground-requires : tie.Need-is-ground-requires Inv-loop μ-loop
+is-ground-requires c κs = search needs
+
+returns : tie.Need-returns Inv-loop μ-loop
+returns c =
+    let a = (c .before .before .before .before .before .args) in
+    let s = (c .before .before .before .before .loop) in
+    let len : length (a .t1) ≡ 64 = search (needs, length-mapped) in
+    sound-variable (a .t1) (a .n) (s .i) _ (omega arith) (omega arith) (s .inv .1) (sym ((c .before .is-ground) .ensures) ∙ not-true _ ((c .if1) .taken))
+
+place-from-requires : tie.Need-place-from-requires Inv-loop μ-loop
+place-from-requires c κs = search needs
+
+returns-2 : tie.Need-returns-2 Inv-loop μ-loop
+returns-2 c =
+    let a = (c .before .before .before .before .before .before .before .args) in
+    let s = (c .before .before .before .before .before .before .loop) in
+    let len : length (a .t1) ≡ 64 = search (needs, length-mapped) in
+    sound-repeated (a .t1) (a .n) (s .i) _ (omega arith) (omega arith) (s .inv .1) (sym ((c .before .before .before .is-ground) .ensures) ∙ not-false _ ((c .before .before .if1) .left))
+    ((c .before .place-from) .result) ((c .before .place-from) .ensures) ((c .if2) .taken)
+
+loop-less : tie.Need-loop-less Inv-loop μ-loop
+loop-less c = search needs
+
+loop-again : tie.Need-loop-again Inv-loop μ-loop
+loop-again c =
+    let a = (c .before .before .before .before .before .before .before .args) in
+    let s = (c .before .before .before .before .before .before .loop) in
+    let len : length (a .t1) ≡ 64 = search (needs, length-mapped) in (
+      omega arith,
+      sound-next (a .t1) (a .n) (s .i) _ (omega arith) (omega arith) (s .inv .1) (sym ((c .before .before .before .is-ground) .ensures) ∙ not-false _ ((c .before .before .if1) .left))
+          ((c .before .place-from) .result) ((c .before .place-from) .ensures) ((c .if2) .left),
+    )
+
+returns-3 : tie.Need-returns-3 Inv-loop μ-loop
+returns-3 c =
+    let a = (c .before .before .args) in
+    let s = (c .before .loop) in
+    sound-end (take (a .n) (a .t1)) (s .i) (simp length-take (omega arith)) (s .inv .1)
+
+pub are-beliefs-spec : {M : Type 1} → statement M
+are-beliefs-spec =
+    tie.close
+    (tie.spec
+    Inv-loop
+    μ-loop
+    loop-holds
+    mul-item
+    array-copy-out-item
+    add-i
+    is-ground-requires
+    returns
+    place-from-requires
+    returns-2
+    loop-less
+    loop-again
+    returns-3)

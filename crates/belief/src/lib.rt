@@ -1,0 +1,169 @@
+// The belief table by value: a literal held, added or removed, and the rules for beliefs.
+ghost use mathlib.Core.Path.{_≡_};
+ghost use mathlib.Core.Bool.{_&&_};
+ghost use Prim.Native.Nat.{_+_, _-_, _<_, _≤_};
+ghost use lib.ListN.{take, drop};
+ghost use Rattle.lists.specs.Search.{all, distinct, position};
+ghost use Rattle.lists.specs.Gap.{closeGap};
+ghost use Rattle.literal.specs.Literal.{isGround, same};
+ghost use Rattle.belief.specs.Beliefs.{size, view, holds};
+ghost use Rattle.belief.specs.Table.{add, remove, isTable};
+use literal::Literal;
+
+// At most this many beliefs.
+const MOST_BELIEFS: usize = 64;
+
+// The beliefs are the first `count` items, oldest first; the other places are no part of the table.
+pub struct Beliefs {
+    pub items: [Literal; 64],
+    pub count: usize,
+}
+
+// A change of the beliefs: the literal is removed, or else added.
+pub struct Change {
+    pub removes: bool,
+    pub literal: Literal,
+}
+
+// The table after an add or a removal, whether it changed, and whether there was room.
+pub struct Applied {
+    pub table: Beliefs,
+    pub changed: bool,
+    pub fitted: bool,
+}
+
+// How many places are in use.
+fn size_of(b: Beliefs) -> usize
+    ensures { λ r. ⌜ r ≡ size b ⌝ }
+{
+    if b.count < MOST_BELIEFS {
+        return b.count;
+    }
+    MOST_BELIEFS
+}
+
+// The first place of the literal among the first n items from `from` on; n where there is none.
+fn place_from(items: [Literal; 64], n: usize, from: usize, l: Literal) -> usize
+    requires { ⌜ (from ≤ n) × (n ≤ 64) ⌝ }
+    ensures { λ r. ⌜ r ≡ from + position (same l) (drop from (take n items)) ⌝ }
+{
+    let mut i = from;
+    while i < n {
+        let item = items[i];
+        if literal::is_same(l, item) {
+            return i;
+        }
+        i += 1;
+    }
+    i
+}
+
+// The items from the gap on move down by one, up to the last of n.
+fn without_gap(items: [Literal; 64], gap: usize, n: usize) -> [Literal; 64]
+    requires { ⌜ (gap < n) × (n ≤ 64) ⌝ }
+    ensures { λ r. ⌜ r ≡ closeGap gap (n - 1) items ⌝ }
+{
+    let mut moved = items;
+    let mut i = gap;
+    while i < n - 1 {
+        let next = moved[i + 1];
+        moved[i] = next;
+        i += 1;
+    }
+    moved
+}
+
+// Whether the literal is a belief.
+pub fn is_held(b: Beliefs, l: Literal) -> bool
+    ensures { λ r. ⌜ r ≡ holds (view b) l ⌝ }
+{
+    let n = size_of(b);
+    let items = b.items;
+    let place = place_from(items, n, 0, l);
+    place < n
+}
+
+// The table with the literal: last where it is new and there is room.
+pub fn added(b: Beliefs, l: Literal) -> Applied
+    ensures { λ r. ⌜ r ≡ add b l ⌝ }
+{
+    if is_held(b, l) {
+        return Applied {
+            table: b,
+            changed: false,
+            fitted: true,
+        };
+    }
+    let n = b.count;
+    if MOST_BELIEFS <= n {
+        return Applied {
+            table: b,
+            changed: false,
+            fitted: false,
+        };
+    }
+    let mut next = b;
+    next.items[n] = l;
+    next.count = n + 1;
+    Applied {
+        table: next,
+        changed: true,
+        fitted: true,
+    }
+}
+
+// The table without the literal; the others keep their order.
+pub fn removed(b: Beliefs, l: Literal) -> Applied
+    ensures { λ r. ⌜ r ≡ remove b l ⌝ }
+{
+    let n = size_of(b);
+    let items = b.items;
+    let place = place_from(items, n, 0, l);
+    if n <= place {
+        return Applied {
+            table: b,
+            changed: false,
+            fitted: true,
+        };
+    }
+    let closed = without_gap(items, place, n);
+    Applied {
+        table: Beliefs {
+            items: closed,
+            count: n - 1,
+        },
+        changed: true,
+        fitted: true,
+    }
+}
+
+// Whether the first n items are ground and all different.
+fn are_beliefs(items: [Literal; 64], n: usize) -> bool
+    requires { ⌜ n ≤ 64 ⌝ }
+    ensures { λ r. ⌜ r ≡ (all isGround (take n items) && distinct same (take n items)) ⌝ }
+{
+    let mut i: usize = 0;
+    while i < n {
+        let item = items[i];
+        i += 1;
+        if !literal::is_ground(item) {
+            return false;
+        }
+        if place_from(items, n, i, item) < n {
+            return false;
+        }
+    }
+    true
+}
+
+// The rules for beliefs: at most 64, all ground, all different.
+pub fn is_table(b: Beliefs) -> bool
+    ensures { λ r. ⌜ r ≡ isTable b ⌝ }
+{
+    let n = b.count;
+    if MOST_BELIEFS < n {
+        return false;
+    }
+    let items = b.items;
+    are_beliefs(items, n)
+}

@@ -1,0 +1,69 @@
+-- Laws of closing a gap: the steps of the loop that does it, and what the table holds after it.
+use Prim.Native.Nat.{ℕ, zero, suc, _+_, _-_, _<_, _≤_}
+use native.Mathlib.Numerals.{add-one}
+use native.Mathlib.Omega.{arith}
+use native.Mathlib.Nat.{sub-self, sub-zero, suc-sub-suc, zero-sub}
+use mathlib.Core.Path.{_≡_, ap, sym, _∙_}
+use mathlib.Core.List.{List, [], _∷_, _++_, append-assoc, append-nil}
+use lib.ListN.{length, take, drop, set, getD, length-append, length-take, length-drop, take-append-drop, drop-of-length-le}
+use lib.Seq.{take-suc, drop-cons, set-at, take-at, getD-drop, getD-append-add, take-take, drop-nil, take-nil, take-all}
+use Rattle.lists.specs.Gap.{removeAt, closeGap}
+
+pub drop-take : {A : Type 0} (m n : ℕ) (xs : List A) → drop m (take n xs) ≡ take (n - m) (drop m xs)
+drop-take zero n xs = rw sub-zero
+drop-take (suc m) zero xs = rw zero-sub
+drop-take (suc m) (suc n) [] = simp (drop-nil, take-nil)
+drop-take (suc m) (suc n) (x ∷ xs) = rw suc-sub-suc (drop-take m n xs)
+
+-- the part up to n, after the gap is closed there
+closed : {A : Type 0} → ℕ → ℕ → List A → List A
+closed i n xs = take i xs ++ take (n - i) (drop (suc i) xs)
+
+length-closed : {A : Type 0} (xs : List A) (i n : ℕ) → i ≤ n → n < length xs → length (closed i n xs) ≡ n
+unfolding closed
+length-closed xs i n p q = simp (length-append, length-take, length-drop) (omega arith)
+
+-- nothing is moved yet
+pub gap-start : {A : Type 0} (xs : List A) (i : ℕ) → closeGap i i xs ≡ xs
+gap-start xs i = simp (sub-self, append-nil, take-append-drop)
+
+-- one more place is moved
+module _ {A : Type 0} (xs : List A) (i n : ℕ) (d : A) (low : i ≤ n) (high : n + 1 < length xs) where
+  next : getD (closeGap i n xs) (n + 1) d ≡ getD xs (n + 1) d
+  unfolding closed
+  next =
+      ap (λ (m : ℕ). getD (closed i n xs ++ drop n xs) (m + 1) d) (sym (length-closed xs i n low (omega arith)))
+      ∙ getD-append-add (closed i n xs) (drop n xs) 1 d
+      ∙ getD-drop n xs 1 d
+
+  stored : (v : A) → set (closeGap i n xs) n v ≡ closed i n xs ++ (v ∷ drop (suc n) xs)
+  unfolding closed
+  stored v =
+      ap (λ (t : List A). set (closed i n xs ++ t) n v) (drop-cons xs n d (omega arith))
+      ∙ set-at (closed i n xs) _ _ v n (length-closed xs i n low (omega arith))
+
+  wanted : closeGap i (n + 1) xs ≡ closed i n xs ++ (getD xs (n + 1) d ∷ drop (suc n) xs)
+  unfolding closed
+  wanted =
+      let e : n + 1 - i ≡ suc (n - i) = omega arith in
+      let f : suc i + (n - i) ≡ n + 1 = omega arith in
+      let h : n - i < length (drop (suc i) xs) = simp length-drop (omega arith) in
+      rw (e, take-suc (drop (suc i) xs) (n - i) d, getD-drop, f) (simp (append-assoc, add-one))
+
+  pub gap-step : set (closeGap i n xs) n (getD (closeGap i n xs) (n + 1) d) ≡ closeGap i (n + 1) xs
+  gap-step = rw next (stored _ ∙ sym wanted)
+
+-- the places in use after it are the others in their order
+pub gap-take : {A : Type 0} (xs : List A) (i n : ℕ) → i < n → n ≤ length xs → take (n - 1) (closeGap i (n - 1) xs) ≡ removeAt i (take n xs)
+unfolding closed
+gap-take xs i n low high =
+    let e : n - suc i ≡ n - 1 - i = omega arith in
+    let h : i ≤ n = omega arith in
+    take-at (closed i (n - 1) xs) (drop (n - 1) xs) (n - 1) (length-closed xs i (n - 1) (omega arith) (omega arith))
+    ∙ rw (take-take, drop-take, e)
+
+-- past the end there is nothing to remove
+pub removeAt-past : {A : Type 0} (i : ℕ) (xs : List A) → length xs ≤ i → removeAt i xs ≡ xs
+removeAt-past i xs h =
+    let rest : drop (suc i) xs ≡ [] = drop-of-length-le xs {i = suc i} (omega arith) in
+    rw (take-all i xs h, rest) (append-nil xs)

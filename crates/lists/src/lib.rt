@@ -1,0 +1,1 @@
+// Lists as the specifications use them: definitions in specs/, laws in proofs/, and no code.

@@ -1,0 +1,4 @@
+pub mod LiteralLaws
+pub mod MatchSteps
+pub mod EnvLaws
+pub mod MatchLaws

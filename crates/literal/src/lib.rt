@@ -1,0 +1,183 @@
+// Terms, literals and environments, and matching a literal against a ground one.
+ghost use mathlib.Core.Path.{_≡_};
+ghost use mathlib.Core.Option.{none};
+ghost use Rattle.literal.specs.Literal.{isGround, same, opposite};
+ghost use Rattle.literal.specs.Environment.{value, instantiate, emptyEnv, replace, bind};
+ghost use Rattle.literal.specs.Match.{matchTerm, matchLiteral, answer};
+
+// Terms from this number on are the variables V0 to V7, and lower ones are constants.
+const FIRST_VARIABLE: u16 = 65528;
+
+const VARIABLES: usize = 8;
+// What a negative literal's head has above its predicate.
+const NEGATIVE: u16 = 32768;
+
+// A literal as it is stored: the predicate with its sign, and three terms, 0 where unused.
+pub struct Literal {
+    pub head: u16,
+    pub first: u16,
+    pub second: u16,
+    pub third: u16,
+}
+
+// What each variable stands for: its constant, or itself while it is unbound.
+pub struct Env {
+    pub terms: [u16; 8],
+}
+
+// Whether a literal matched, and the environment after it: the one given where it did not.
+pub struct Match {
+    pub found: bool,
+    pub env: Env,
+}
+
+pub fn is_ground(l: Literal) -> bool
+    ensures { λ r. ⌜ r ≡ isGround l ⌝ }
+{
+    if FIRST_VARIABLE <= l.first {
+        return false;
+    }
+    if FIRST_VARIABLE <= l.second {
+        return false;
+    }
+    l.third < FIRST_VARIABLE
+}
+
+pub fn is_same(l: Literal, m: Literal) -> bool
+    ensures { λ r. ⌜ r ≡ same l m ⌝ }
+{
+    if l.head != m.head {
+        return false;
+    }
+    if l.first != m.first {
+        return false;
+    }
+    if l.second != m.second {
+        return false;
+    }
+    l.third == m.third
+}
+
+// The literal with the other sign.
+pub fn opposite_of(l: Literal) -> Literal
+    ensures { λ r. ⌜ r ≡ opposite l ⌝ }
+{
+    if l.head < NEGATIVE {
+        return Literal {
+            head: l.head + NEGATIVE,
+            ..l
+        };
+    }
+    Literal {
+        head: l.head - NEGATIVE,
+        ..l
+    }
+}
+
+pub fn empty_env() -> Env
+    ensures { λ r. ⌜ r ≡ emptyEnv ⌝ }
+{
+    Env {
+        terms: [65528, 65529, 65530, 65531, 65532, 65533, 65534, 65535],
+    }
+}
+
+// What a term stands for.
+pub fn value_of(env: Env, term: u16) -> u16
+    ensures { λ r. ⌜ r ≡ value env term ⌝ }
+{
+    if term < FIRST_VARIABLE {
+        return term;
+    }
+    let i = (term - FIRST_VARIABLE) as usize;
+    env.terms[i]
+}
+
+// The literal with its bound variables replaced by their constants.
+pub fn instantiated(env: Env, l: Literal) -> Literal
+    ensures { λ r. ⌜ r ≡ instantiate env l ⌝ }
+{
+    let first = value_of(env, l.first);
+    let second = value_of(env, l.second);
+    let third = value_of(env, l.third);
+    Literal {
+        head: l.head,
+        first: first,
+        second: second,
+        third: third,
+    }
+}
+
+fn replaced(variable: u16, constant: u16, term: u16) -> u16
+    ensures { λ r. ⌜ r ≡ replace variable constant term ⌝ }
+{
+    if term == variable {
+        return constant;
+    }
+    term
+}
+
+// The environment in which all that stood for the variable stands for the constant.
+fn bound(variable: u16, constant: u16, env: Env) -> Env
+    ensures { λ r. ⌜ r ≡ bind variable constant env ⌝ }
+{
+    let mut terms = env.terms;
+    let mut i: usize = 0;
+    while i < VARIABLES {
+        let term = terms[i];
+        terms[i] = replaced(variable, constant, term);
+        i += 1;
+    }
+    Env { terms: terms }
+}
+
+fn match_term(term: u16, constant: u16, env: Env) -> Match
+    ensures { λ r. ⌜ r ≡ answer env (matchTerm term constant env) ⌝ }
+{
+    let now = value_of(env, term);
+    if now < FIRST_VARIABLE {
+        return Match {
+            found: now == constant,
+            env: env,
+        };
+    }
+    let next = bound(now, constant, env);
+    Match {
+        found: true,
+        env: next,
+    }
+}
+
+// No match leaves the environment as it was.
+fn no_match(env: Env) -> Match
+    ensures { λ r. ⌜ r ≡ answer env none ⌝ }
+{
+    Match {
+        found: false,
+        env: env,
+    }
+}
+
+// The literal against a ground one, from an environment.
+pub fn match_literal(l: Literal, ground: Literal, env: Env) -> Match
+    ensures { λ r. ⌜ r ≡ answer env (matchLiteral l ground env) ⌝ }
+{
+    if l.head != ground.head {
+        return no_match(env);
+    }
+    let one = match_term(l.first, ground.first, env);
+    if !one.found {
+        return no_match(env);
+    }
+    let after_one = one.env;
+    let two = match_term(l.second, ground.second, after_one);
+    if !two.found {
+        return no_match(env);
+    }
+    let after_two = two.env;
+    let three = match_term(l.third, ground.third, after_two);
+    if three.found {
+        return three;
+    }
+    no_match(env)
+}
