@@ -19,7 +19,8 @@ abbrev pub addBy : Bool → Bool → Beliefs → Literal → Applied
 addBy true room table l = unchanged table
 addBy false false table l = record { table = table; changed = false; fitted = false }
 addBy false true table l =
-    record { table = record { items = set (table .items) (table .count) l; count = table .count + 1 }; changed = true; fitted = true }
+    let next : Beliefs = record { items = set (table .items) (table .count) l; count = table .count + 1 } in
+    record { table = next; changed = true; fitted = true }
 
 -- held: no change; 64 held: does not fit; else last
 unfoldable pub add : Beliefs → Literal → Applied
@@ -29,7 +30,8 @@ add table l = addBy (holds (view table) l) (ltb (table .count) mostBeliefs) tabl
 abbrev pub removeBy : Bool → ℕ → Beliefs → Applied
 removeBy false place table = unchanged table
 removeBy true place table =
-    record { table = record { items = closeGap place (size table - 1) (table .items); count = size table - 1 }; changed = true; fitted = true }
+    let next : Beliefs = record { items = closeGap place (size table - 1) (table .items); count = size table - 1 } in
+    record { table = next; changed = true; fitted = true }
 
 -- absent: no change; else the gap is closed
 unfoldable pub remove : Beliefs → Literal → Applied

@@ -33,7 +33,7 @@ pub struct Applied {
 }
 
 // How many places are in use.
-fn size_of(b: Beliefs) -> usize
+pub fn size_of(b: Beliefs) -> usize
     ensures { λ r. ⌜ r ≡ size b ⌝ }
 {
     if b.count < MOST_BELIEFS {

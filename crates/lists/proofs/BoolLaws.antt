@@ -1,7 +1,7 @@
 -- Laws of tests: a conjunction from its parts and back, and a test taken by cases.
 use Prim.Native.Nat.{ℕ}
 use mathlib.Core.Path.{_≡_, refl}
-use mathlib.Core.Bool.{Bool, true, false, _&&_}
+use mathlib.Core.Bool.{Bool, true, false, _&&_, _||_}
 use native.Mathlib.Omega.{arith}
 
 pub by-cases : {P : Type 0} (b : Bool) → (b ≡ true → P) → (b ≡ false → P) → P
@@ -17,3 +17,7 @@ and-parts false b e = both-ways {b = false} e refl
 
 pub and-both : (a b : Bool) → a ≡ true → b ≡ true → (a && b) ≡ true
 and-both a b p q = rw (p, q)
+
+pub or-parts : (a b : Bool) → (a || b) ≡ false → (a ≡ false) × (b ≡ false)
+or-parts true b e = both-ways {b = true} refl e
+or-parts false b e = (refl, e)

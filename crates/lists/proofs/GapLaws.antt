@@ -6,7 +6,7 @@ use native.Mathlib.Nat.{sub-self, sub-zero, suc-sub-suc, zero-sub}
 use mathlib.Core.Path.{_≡_, ap, sym, _∙_}
 use mathlib.Core.List.{List, [], _∷_, _++_, append-assoc, append-nil}
 use lib.ListN.{length, take, drop, set, getD, length-append, length-take, length-drop, take-append-drop, drop-of-length-le}
-use lib.Seq.{take-suc, drop-cons, set-at, take-at, getD-drop, getD-append-add, take-take, drop-nil, take-nil, take-all}
+use lib.Seq.{take-suc, drop-cons, set-at, take-at, getD-drop, getD-append-add, take-take, drop-nil, take-nil, take-all, append-snoc}
 use Rattle.lists.specs.Gap.{removeAt, closeGap}
 
 pub drop-take : {A : Type 0} (m n : ℕ) (xs : List A) → drop m (take n xs) ≡ take (n - m) (drop m xs)
@@ -53,14 +53,29 @@ module _ {A : Type 0} (xs : List A) (i n : ℕ) (d : A) (low : i ≤ n) (high : 
   pub gap-step : set (closeGap i n xs) n (getD (closeGap i n xs) (n + 1) d) ≡ closeGap i (n + 1) xs
   gap-step = rw next (stored _ ∙ sym wanted)
 
--- the places in use after it are the others in their order
-pub gap-take : {A : Type 0} (xs : List A) (i n : ℕ) → i < n → n ≤ length xs → take (n - 1) (closeGap i (n - 1) xs) ≡ removeAt i (take n xs)
-unfolding closed
-gap-take xs i n low high =
-    let e : n - suc i ≡ n - 1 - i = omega arith in
-    let h : i ≤ n = omega arith in
-    take-at (closed i (n - 1) xs) (drop (n - 1) xs) (n - 1) (length-closed xs i (n - 1) (omega arith) (omega arith))
-    ∙ rw (take-take, drop-take, e)
+-- the places in use after it
+module _ {A : Type 0} (xs : List A) (i n : ℕ) (low : i < n) (high : n ≤ length xs) where
+  closed-removed : closed i (n - 1) xs ≡ removeAt i (take n xs)
+  unfolding closed
+  closed-removed =
+      let e : n - suc i ≡ n - 1 - i = omega arith in
+      let h : i ≤ n = omega arith in
+      rw (take-take, drop-take, e)
+
+  -- the others in their order
+  pub gap-take : take (n - 1) (closeGap i (n - 1) xs) ≡ removeAt i (take n xs)
+  unfolding closed
+  gap-take = take-at (closed i (n - 1) xs) (drop (n - 1) xs) (n - 1) (length-closed xs i (n - 1) (omega arith) (omega arith)) ∙ closed-removed
+
+  -- and one more behind them
+  pub gap-last : (x : A) → take n (set (closeGap i (n - 1) xs) (n - 1) x) ≡ removeAt i (take n xs) ++ (x ∷ [])
+  unfolding closed
+  gap-last x =
+      let len : length (closed i (n - 1) xs) ≡ n - 1 = length-closed xs i (n - 1) (omega arith) (omega arith) in
+      ap (λ (t : List A). take n (set (closed i (n - 1) xs ++ t) (n - 1) x)) (drop-cons xs (n - 1) x (omega arith))
+      ∙ ap (λ (t : List A). take n t) (set-at (closed i (n - 1) xs) _ _ x (n - 1) len ∙ sym (append-snoc (closed i (n - 1) xs) x _))
+      ∙ take-at (closed i (n - 1) xs ++ (x ∷ [])) _ n (length-append (closed i (n - 1) xs) _ ∙ omega arith)
+      ∙ ap (λ (t : List A). t ++ (x ∷ [])) closed-removed
 
 -- past the end there is nothing to remove
 pub removeAt-past : {A : Type 0} (i : ℕ) (xs : List A) → length xs ≤ i → removeAt i xs ≡ xs

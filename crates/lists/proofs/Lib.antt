@@ -1,7 +1,9 @@
 pub mod BoolLaws
 pub mod OptionLaws
+pub mod TestLaws
+pub mod AllLaws
 pub mod SearchLaws
+pub mod LoopLaws
 pub mod GapLaws
 pub mod MapLaws
 pub mod ArrayLaws
-pub mod TestLaws

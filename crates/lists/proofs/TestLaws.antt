@@ -1,15 +1,12 @@
 -- Laws of tests on lists that are joined, or lose an element.
 use Prim.Native.Nat.{ℕ, zero, suc}
 use mathlib.Core.Path.{_≡_, refl, _∙_}
-use mathlib.Core.Bool.{Bool, true, false, not, _||_}
+use mathlib.Core.Bool.{Bool, true, false, not}
 use mathlib.Core.List.{List, [], _∷_, _++_}
+use borrow.Author.Tests.{not-true}
 use Rattle.lists.specs.Search.{any, all, distinct}
 use Rattle.lists.specs.Gap.{removeAt}
-use Rattle.lists.proofs.BoolLaws.{both-ways, and-parts, and-both}
-
-pub or-parts : (a b : Bool) → (a || b) ≡ false → (a ≡ false) × (b ≡ false)
-or-parts true b e = both-ways {b = true} refl e
-or-parts false b e = (refl, e)
+use Rattle.lists.proofs.BoolLaws.{and-parts, and-both, or-parts}
 
 module _ {A : Type 0} (test : A → Bool) where
   pub all-joined : (xs ys : List A) → all test xs ≡ true → all test ys ≡ true → all test (xs ++ ys) ≡ true
@@ -36,12 +33,8 @@ module _ {A : Type 0} (test : A → Bool) where
   none-removed (suc i) [] p = refl
   none-removed (suc i) (x ∷ xs) p = let parts = or-parts (test x) (any test xs) p in rw (parts .0) (none-removed i xs (parts .1))
 
-not-true : {b : Bool} → b ≡ false → not b ≡ true
-not-true e = rw e
-
-not-held : (b : Bool) → not b ≡ true → b ≡ false
-not-held true e = both-ways {b = false} e refl
-not-held false e = refl
+not-any : {b : Bool} → b ≡ false → not b ≡ true
+not-any e = rw e
 
 module _ {A : Type 0} (equal : A → A → Bool) where
   -- one more element that equals none, by a test that does not depend on the order
@@ -52,8 +45,8 @@ module _ {A : Type 0} (equal : A → A → Bool) where
   distinct-joined swap (x ∷ xs) y p q =
       let parts = and-parts (not (any (equal x) xs)) (distinct equal xs) p in
       let others = or-parts (equal y x) (any (equal y) xs) q in
-      let new = none-joined (equal x) xs y (not-held (any (equal x) xs) (parts .0)) (swap x y ∙ others .0) in
-      and-both (not (any (equal x) (xs ++ (y ∷ [])))) _ (not-true new) (distinct-joined swap xs y (parts .1) (others .1))
+      let new = none-joined (equal x) xs y (not-true (any (equal x) xs) (parts .0)) (swap x y ∙ others .0) in
+      and-both (not (any (equal x) (xs ++ (y ∷ [])))) _ (not-any new) (distinct-joined swap xs y (parts .1) (others .1))
 
   pub distinct-removed : (i : ℕ) (xs : List A) → distinct equal xs ≡ true → distinct equal (removeAt i xs) ≡ true
   unfolding distinct
@@ -62,5 +55,5 @@ module _ {A : Type 0} (equal : A → A → Bool) where
   distinct-removed (suc i) [] p = refl
   distinct-removed (suc i) (x ∷ xs) p =
       let parts = and-parts (not (any (equal x) xs)) (distinct equal xs) p in
-      let others = none-removed (equal x) i xs (not-held (any (equal x) xs) (parts .0)) in
-      and-both (not (any (equal x) (removeAt i xs))) _ (not-true others) (distinct-removed i xs (parts .1))
+      let others = none-removed (equal x) i xs (not-true (any (equal x) xs) (parts .0)) in
+      and-both (not (any (equal x) (removeAt i xs))) _ (not-any others) (distinct-removed i xs (parts .1))

@@ -1,0 +1,52 @@
+-- `library::bytes::literal_at` meets its contract: number by number; past the end all are 0.
+use mathlib.Core.Path.{sym, _∙_}
+use borrow.Author.Needs.{needs}
+use denote.Ref.{now}
+use Rattle.library.proofs.PastEnd.{literal-past}
+use Rattle.library.proofs.bytes.literal_at.Statement.{statement}
+use Rattle.library.proofs.bytes.literal_at.Tie as tie
+
+no-literal-requires : tie.Need-no-literal-requires
+no-literal-requires c κs = search needs
+
+returns : tie.Need-returns
+returns c = (c .no-literal) .ensures ∙ sym (literal-past (now ((c .before .before .before .args) .bytes)) ((c .before .before .before .args) .at) ((c .before .if1) .taken))
+
+u16-at-requires : tie.Need-u16-at-requires
+u16-at-requires c κs = search needs
+
+add-u16-at : tie.Need-add-u16-at
+add-u16-at c = search needs
+
+u16-at-requires-2 : tie.Need-u16-at-requires-2
+u16-at-requires-2 c κs = search needs
+
+add-u16-at-2 : tie.Need-add-u16-at-2
+add-u16-at-2 c = search needs
+
+u16-at-requires-3 : tie.Need-u16-at-requires-3
+u16-at-requires-3 c κs = search needs
+
+add-u16-at-3 : tie.Need-add-u16-at-3
+add-u16-at-3 c = search needs
+
+u16-at-requires-4 : tie.Need-u16-at-requires-4
+u16-at-requires-4 c κs = search needs
+
+returns-2 : tie.Need-returns-2
+returns-2 c = cc
+
+pub literal-at-spec : {M : Type 1} → statement M
+literal-at-spec =
+    tie.close
+    (tie.spec
+    no-literal-requires
+    returns
+    u16-at-requires
+    add-u16-at
+    u16-at-requires-2
+    add-u16-at-2
+    u16-at-requires-3
+    add-u16-at-3
+    u16-at-requires-4
+    returns-2)

@@ -1,0 +1,13 @@
+-- `library::bytes::no_action` meets its contract: field by field.
+use borrow.Author.Needs.{needs}
+use Rattle.library.proofs.bytes.no_action.Statement.{statement}
+use Rattle.library.proofs.bytes.no_action.Tie as tie
+
+no-literal-requires : tie.Need-no-literal-requires
+no-literal-requires c κs = search needs
+
+returns : tie.Need-returns
+returns c = cc
+
+pub no-action-spec : {M : Type 1} → statement M
+no-action-spec = tie.close (tie.spec no-literal-requires returns)

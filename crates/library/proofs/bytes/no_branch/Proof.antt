@@ -1,0 +1,13 @@
+-- `library::bytes::no_branch` meets its contract: field by field.
+use borrow.Author.Needs.{needs}
+use Rattle.library.proofs.bytes.no_branch.Statement.{statement}
+use Rattle.library.proofs.bytes.no_branch.Tie as tie
+
+no-literal-requires : tie.Need-no-literal-requires
+no-literal-requires c κs = search needs
+
+returns : tie.Need-returns
+returns c = cc
+
+pub no-branch-spec : {M : Type 1} → statement M
+no-branch-spec = tie.close (tie.spec no-literal-requires returns)
