@@ -7,3 +7,7 @@ pub mod LoopLaws
 pub mod GapLaws
 pub mod MapLaws
 pub mod ArrayLaws
+pub mod CountLaws
+pub mod TestCounts
+pub mod LikeLaws
+pub mod PlaceLaws

@@ -1,2 +1,4 @@
 pub mod Search
 pub mod Gap
+pub mod Counts
+pub mod Places

@@ -1,0 +1,7 @@
+pub mod QueueSteps
+pub mod StackSteps
+pub mod ViewLaws
+pub mod SearchSteps
+pub mod QueueLaws
+pub mod StackLaws
+pub mod StateLaws

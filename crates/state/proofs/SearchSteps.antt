@@ -1,0 +1,58 @@
+-- What the searches over a state's arrays answer, as places in the lists that they mean.
+use Prim.Native.Nat.{ℕ, _+_}
+use native.Mathlib.Nat.{zero-add}
+use mathlib.Core.Path.{_≡_, ap, sym, _∙_}
+use mathlib.Core.Bool.{Bool, true, false}
+use lib.ListN.{length, take, drop}
+use lib.Dec.{ltb}
+use Rattle.lists.specs.Search.{any, position}
+use Rattle.model.specs.declared.Event.{Event}
+use Rattle.model.specs.declared.Origin.{Origin}
+use Rattle.model.specs.declared.Origin.the-variants.{External}
+use Rattle.model.specs.State.{Intention}
+use Rattle.model.specs.Live.{isGoal, sameOrigin, live, jobsOf, serves, isPending, isReady}
+use Rattle.state.specs.declared.Stack.{Stack}
+use Rattle.state.specs.declared.State.{State}
+use Rattle.state.specs.View.{depthOf, viewStack, queuedOf, stackedOf, viewQueue, viewStacks}
+use Rattle.state.specs.Search.{hasGoal}
+use Rattle.state.proofs.ViewLaws.{position-mapped, length-stacks, served-stack, live-any}
+
+module _ (s : State) (n i : ℕ) where
+  pub queue-place : (test : Event → Bool) → n ≡ queuedOf s → i ≡ 0 + position test (drop 0 (take n (s .queue))) → i ≡ position test (viewQueue s)
+  queue-place test e p = p ∙ zero-add _ ∙ ap (λ (m : ℕ). position test (take m (s .queue))) e
+
+  pub stack-place : (test : Intention → Bool) → n ≡ stackedOf s → i ≡ 0 + position (λ k. test (viewStack k)) (drop 0 (take n (s .stacks)))
+      → i ≡ position test (viewStacks s)
+  stack-place test e p =
+      p ∙ zero-add _ ∙ ap (λ (m : ℕ). position (λ k. test (viewStack k)) (take m (s .stacks))) e ∙ sym (position-mapped viewStack test (take (stackedOf s) (s .stacks)))
+
+-- some stack has an instance that serves the event
+pub served-live : (s : State) (n : ℕ) (origin : Origin) (b : Bool) → n ≡ stackedOf s
+    → any (λ k. any (serves origin) (jobsOf (viewStack k))) (drop 0 (take n (s .stacks))) ≡ b → b ≡ any (serves origin) (live (viewStacks s))
+served-live s n origin b e p =
+    sym p ∙ ap (λ (m : ℕ). any (λ k. any (serves origin) (jobsOf (viewStack k))) (take m (s .stacks))) e ∙ sym (live-any (serves origin) (take (stackedOf s) (s .stacks)))
+
+module _ (origin : Origin) (stack : Stack) (len : length (stack .below) ≡ 7) where
+  -- the bottom serves it
+  pub served-bottom : sameOrigin origin (External (stack .external)) ≡ true → true ≡ any (serves origin) (jobsOf (viewStack stack))
+  served-bottom e = sym (served-stack origin stack len ∙ rw e)
+
+  -- else one above the instance whose goal it is
+  pub served-above : sameOrigin origin (External (stack .external)) ≡ false
+      → any (hasGoal origin) (take (depthOf stack) (stack .below)) ≡ any (serves origin) (jobsOf (viewStack stack))
+  served-above e = sym (served-stack origin stack len ∙ rw e)
+
+module _ (s : State) (event : Event) where
+  pub ready-served : any (serves (event .origin)) (live (viewStacks s)) ≡ true → false ≡ isReady (live (viewStacks s)) (length (viewStacks s)) event
+  unfolding isReady isPending
+  ready-served e = rw e
+
+  module _ (e : any (serves (event .origin)) (live (viewStacks s)) ≡ false) where
+    pub ready-goal : isGoal (event .origin) ≡ true → true ≡ isReady (live (viewStacks s)) (length (viewStacks s)) event
+    unfolding isReady isPending
+    ready-goal g = rw (e, g)
+
+    pub ready-external : isGoal (event .origin) ≡ false → (n : ℕ) → n ≡ stackedOf s → length (s .stacks) ≡ 8
+        → ltb n 8 ≡ isReady (live (viewStacks s)) (length (viewStacks s)) event
+    unfolding isReady isPending
+    ready-external g n p len = rw (e, g) (ap (λ (m : ℕ). ltb m 8) (p ∙ sym (length-stacks s len)))

@@ -1,0 +1,64 @@
+-- What a change of the queue or the stacks leaves alone, and the whole view after it.
+use Prim.Native.Nat.{ℕ, _+_, _-_, _<_}
+use mathlib.Core.Path.{_≡_, refl, ap, _∙_}
+use mathlib.Core.Bool.{Bool, true, false, cond}
+use mathlib.Core.List.{List, [], _∷_, _++_}
+use lib.ListN.{length, set}
+use lib.Dec.{ltb}
+use Rattle.lists.specs.Gap.{removeAt, closeGap}
+use Rattle.belief.specs.Beliefs.{view}
+use Rattle.model.specs.declared.Event.{Event}
+use Rattle.model.specs.State.{Intention, AgentState}
+use Rattle.state.specs.declared.Stack.{Stack}
+use Rattle.state.specs.declared.State.{State}
+use Rattle.state.specs.View.{viewStack, queuedOf, stackedOf, viewQueue, viewStacks, viewState}
+use Rattle.state.specs.Queue.{withQueue, enqueue, dequeue, putEvent}
+use Rattle.state.specs.Stacks.{withStacks, openLast, putAt, dropAt, turnLast}
+use Rattle.state.proofs.QueueLaws.{enqueue-view, dequeue-view, put-event-view}
+use Rattle.state.proofs.StackLaws.{open-view, put-view, drop-view, last-view}
+
+-- the view with another queue, or other stacks
+abbrev pub queueIs : State → List Event → AgentState
+queueIs s queue = record { beliefs = view (s .beliefs); queue = queue; stacks = viewStacks s; taken = s .taken; made = s .made }
+
+abbrev pub stacksAre : State → List Intention → AgentState
+stacksAre s stacks = record { beliefs = view (s .beliefs); queue = viewQueue s; stacks = stacks; taken = s .taken; made = s .made }
+
+frame-queue : (b : Bool) (s : State) (queue : List Event) (queued : ℕ) → viewState (cond b (withQueue s queue queued) s) ≡ queueIs s (viewQueue (cond b (withQueue s queue queued) s))
+frame-queue true s queue queued = refl
+frame-queue false s queue queued = refl
+
+frame-stacks : (b : Bool) (s : State) (stacks : List Stack) (stacked : ℕ) → viewState (cond b (withStacks s stacks stacked) s) ≡ stacksAre s (viewStacks (cond b (withStacks s stacks stacked) s))
+frame-stacks true s stacks stacked = refl
+frame-stacks false s stacks stacked = refl
+
+module _ (s : State) where
+  pub enqueue-state : (event : Event) → length (s .queue) ≡ 88 → s .queued < 88 → viewState (enqueue s event) ≡ queueIs s (viewQueue s ++ (event ∷ []))
+  unfolding enqueue
+  enqueue-state event len h = frame-queue (ltb (s .queued) 88) s (set (s .queue) (s .queued) event) (s .queued + 1) ∙ ap (queueIs s) (enqueue-view s len event h)
+
+  pub dequeue-state : (place : ℕ) → length (s .queue) ≡ 88 → viewState (dequeue s place) ≡ queueIs s (removeAt place (viewQueue s))
+  unfolding dequeue
+  dequeue-state place len = frame-queue (ltb place (queuedOf s)) s (closeGap place (queuedOf s - 1) (s .queue)) (queuedOf s - 1) ∙ ap (queueIs s) (dequeue-view s len place)
+
+  pub put-event-state : (place : ℕ) (event : Event) → length (s .queue) ≡ 88 → viewState (putEvent s place event) ≡ queueIs s (set (viewQueue s) place event)
+  unfolding putEvent
+  put-event-state place event len = frame-queue (ltb place (queuedOf s)) s (set (s .queue) place event) (s .queued) ∙ ap (queueIs s) (put-event-view s len place event)
+
+  module _ (len : length (s .stacks) ≡ 8) where
+    pub open-state : (stack : Stack) → s .stacked < 8 → viewState (openLast s stack) ≡ stacksAre s (viewStacks s ++ (viewStack stack ∷ []))
+    unfolding openLast
+    open-state stack h = frame-stacks (ltb (s .stacked) 8) s (set (s .stacks) (s .stacked) stack) (s .stacked + 1) ∙ ap (stacksAre s) (open-view s len stack h)
+
+    pub put-state : (place : ℕ) (stack : Stack) → viewState (putAt s place stack) ≡ stacksAre s (set (viewStacks s) place (viewStack stack))
+    unfolding putAt
+    put-state place stack = frame-stacks (ltb place (stackedOf s)) s (set (s .stacks) place stack) (s .stacked) ∙ ap (stacksAre s) (put-view s len place stack)
+
+    pub drop-state : (place : ℕ) → viewState (dropAt s place) ≡ stacksAre s (removeAt place (viewStacks s))
+    unfolding dropAt
+    drop-state place = frame-stacks (ltb place (stackedOf s)) s (closeGap place (stackedOf s - 1) (s .stacks)) (stackedOf s - 1) ∙ ap (stacksAre s) (drop-view s len place)
+
+    pub last-state : (place : ℕ) (stack : Stack) → place < stackedOf s
+        → viewState (turnLast s place stack) ≡ stacksAre s (removeAt place (viewStacks s) ++ (viewStack stack ∷ []))
+    unfolding turnLast
+    last-state place stack low = frame-stacks (ltb place (stackedOf s)) s (set (closeGap place (stackedOf s - 1) (s .stacks)) (stackedOf s - 1) stack) (stackedOf s) ∙ ap (stacksAre s) (last-view s len place stack low)

@@ -1,0 +1,87 @@
+-- `state::search::next_event` meets its contract. The loop's invariant: what it looks for is not before i.
+use borrow.Author.Needs.{needs}
+use native.Mathlib.Omega.{arith}
+use Prim.Native.Nat.{_-_, _≤_}
+use mathlib.Core.Path.{_≡_, refl, sym, _∙_}
+use lib.ListN.{length, take, length-take}
+use Rattle.lists.proofs.ArrayLaws.{length-mapped}
+use Rattle.lists.proofs.SearchLaws.{Passed, search-hit, search-miss, search-end}
+use Rattle.model.specs.Live.{live, isReady}
+use Rattle.state.specs.View.{viewStacks}
+use Rattle.state.proofs.SearchSteps.{queue-place}
+use Rattle.state.proofs.search.next_event.Statement.{statement}
+use Rattle.state.proofs.search.next_event.Tie as tie
+
+abbrev Inv-loop : tie.InvT-loop
+Inv-loop s n i₀ i = (i ≤ n) × Passed (isReady (live (viewStacks s)) (length (viewStacks s))) (take n (s .queue)) 0 i
+
+abbrev μ-loop : tie.MeasureT-loop
+μ-loop s n i₀ i = n - i
+
+queued-of-requires : tie.Need-queued-of-requires Inv-loop μ-loop
+queued-of-requires c κs = search needs
+
+loop-holds : tie.Need-loop-holds Inv-loop μ-loop
+loop-holds c = (omega arith, refl)
+
+mul-event : tie.Need-mul-event Inv-loop μ-loop
+mul-event c = search needs
+
+element-copy-out-event : tie.Need-element-copy-out-event Inv-loop μ-loop
+element-copy-out-event c = search needs
+
+is-ready-requires : tie.Need-is-ready-requires Inv-loop μ-loop
+is-ready-requires c κs = search needs
+
+returns : tie.Need-returns Inv-loop μ-loop
+returns c =
+    let a = (c .before .before .before .before .before .before .args) in
+    let l = (c .before .before .before .before .loop) in
+    let n = (c .before .before .before .before .before .queued-of) .result in
+    let size = (c .before .before .before .before .before .queued-of) .ensures in
+    let test = isReady (live (viewStacks (a .t1))) (length (viewStacks (a .t1))) in
+    let len : length (a .t1 .queue) ≡ 88 = search (needs, length-mapped) in
+    let hit = search-hit test (a .t1 .queue) n 0 (l .i) _ (omega arith) (omega arith) (l .inv .1) (sym ((c .before .is-ready) .ensures) ∙ (c .if1) .taken) in
+    queue-place (a .t1) n (l .i) test size hit
+
+add-i : tie.Need-add-i Inv-loop μ-loop
+add-i c = search needs
+
+loop-less : tie.Need-loop-less Inv-loop μ-loop
+loop-less c = search needs
+
+loop-again : tie.Need-loop-again Inv-loop μ-loop
+loop-again c =
+    let a = (c .before .before .before .before .before .before .args) in
+    let l = (c .before .before .before .before .loop) in
+    let n = (c .before .before .before .before .before .queued-of) .result in
+    let size = (c .before .before .before .before .before .queued-of) .ensures in
+    let test = isReady (live (viewStacks (a .t1))) (length (viewStacks (a .t1))) in
+    let len : length (a .t1 .queue) ≡ 88 = search (needs, length-mapped) in
+    (omega arith, search-miss test (a .t1 .queue) n 0 (l .i) _ (omega arith) (omega arith) (l .inv .1) (sym ((c .before .is-ready) .ensures) ∙ (c .if1) .left))
+
+returns-2 : tie.Need-returns-2 Inv-loop μ-loop
+returns-2 c =
+    let a = (c .before .before .before .args) in
+    let l = (c .before .loop) in
+    let n = (c .before .before .queued-of) .result in
+    let test = isReady (live (viewStacks (a .t1))) (length (viewStacks (a .t1))) in
+    let end = search-end test (take n (a .t1 .queue)) 0 (l .i) (simp length-take (omega arith)) (l .inv .1) in
+    queue-place (a .t1) n (l .i) test ((c .before .before .queued-of) .ensures) end
+
+pub next-event-spec : {M : Type 1} → statement M
+next-event-spec =
+    tie.close
+    (tie.spec
+    Inv-loop
+    μ-loop
+    queued-of-requires
+    loop-holds
+    mul-event
+    element-copy-out-event
+    is-ready-requires
+    returns
+    add-i
+    loop-less
+    loop-again
+    returns-2)

@@ -1,0 +1,4 @@
+pub mod View
+pub mod Queue
+pub mod Stacks
+pub mod Search

@@ -1,0 +1,189 @@
+// Who serves what, and what comes next: each search answers a place, the count where there is none.
+ghost use mathlib.Core.Path.{_≡_};
+ghost use Prim.Native.Nat.{_<_};
+ghost use lib.ListN.{length, take};
+ghost use Rattle.lists.specs.Search.{any, position};
+ghost use Rattle.model.specs.Live.{isOf, jobsOf, live, serves, isReady, isPoster};
+ghost use Rattle.model.specs.Turn.{isRunning};
+ghost use Rattle.model.specs.Outcome.{isAwaiting};
+ghost use Rattle.state.specs.View.{depthOf, viewStack, viewQueue, viewStacks};
+ghost use Rattle.state.specs.Search.{hasGoal};
+use crate::MOST_STACKS;
+use crate::Stack;
+use crate::State;
+use crate::origin;
+use crate::queue;
+use crate::stacks;
+use model::Event;
+use model::Number;
+use model::Origin;
+
+// Whether one of the instances below the top has posted this goal.
+fn has_posted(stack: Stack, origin: Origin) -> bool
+    ensures { λ r. ⌜ r ≡ any (hasGoal origin) (take (depthOf stack) (stack .below)) ⌝ }
+{
+    let n = stacks::depth_of(stack);
+    let mut i: usize = 0;
+    while i < n {
+        let x = stack.below[i];
+        let goal = origin::goal_of(x);
+        i += 1;
+        if origin::is_same_origin(origin, goal) {
+            return true;
+        }
+    }
+    false
+}
+
+// Whether an instance of the stack serves the event of this origin.
+fn is_served_by(stack: Stack, origin: Origin) -> bool
+    ensures { λ r. ⌜ r ≡ any (serves origin) (jobsOf (viewStack stack)) ⌝ }
+{
+    let bottom = Origin::External(stack.external);
+    if origin::is_same_origin(origin, bottom) {
+        return true;
+    }
+    has_posted(stack, origin)
+}
+
+// Whether an instance serves the event of this origin.
+fn is_served(s: State, origin: Origin) -> bool
+    ensures { λ r. ⌜ r ≡ any (serves origin) (live (viewStacks s)) ⌝ }
+{
+    let n = stacks::stacked_of(s);
+    let mut i: usize = 0;
+    while i < n {
+        let stack = s.stacks[i];
+        i += 1;
+        if is_served_by(stack, origin) {
+            return true;
+        }
+    }
+    false
+}
+
+// Whether the event is pending and may be taken up.
+fn is_ready(s: State, event: Event) -> bool
+    ensures { λ r. ⌜ r ≡ isReady (live (viewStacks s)) (length (viewStacks s)) event ⌝ }
+{
+    let origin = event.origin;
+    if is_served(s, origin) {
+        return false;
+    }
+    if origin::is_goal(origin) {
+        return true;
+    }
+    stacks::stacked_of(s) < MOST_STACKS
+}
+
+// The first pending event that may be taken up.
+pub fn next_event(s: State) -> usize
+    ensures { λ r. ⌜ r ≡ position (isReady (live (viewStacks s)) (length (viewStacks s))) (viewQueue s) ⌝ }
+{
+    let n = queue::queued_of(s);
+    let mut i: usize = 0;
+    while i < n {
+        let event = s.queue[i];
+        if is_ready(s, event) {
+            return i;
+        }
+        i += 1;
+    }
+    i
+}
+
+// The event of this origin.
+pub fn event_place(s: State, origin: Origin) -> usize
+    ensures { λ r. ⌜ r ≡ position (isOf origin) (viewQueue s) ⌝ }
+{
+    let n = queue::queued_of(s);
+    let mut i: usize = 0;
+    while i < n {
+        let event = s.queue[i];
+        let other = event.origin;
+        if origin::is_same_origin(origin, other) {
+            return i;
+        }
+        i += 1;
+    }
+    i
+}
+
+fn is_running(stack: Stack) -> bool
+    ensures { λ r. ⌜ r ≡ isRunning (viewStack stack) ⌝ }
+{
+    let top = stack.top;
+    let status = top.status;
+    origin::is_active(status)
+}
+
+// The first stack whose top is active.
+pub fn next_stack(s: State) -> usize
+    ensures { λ r. ⌜ r ≡ position isRunning (viewStacks s) ⌝ }
+{
+    let n = stacks::stacked_of(s);
+    let mut i: usize = 0;
+    while i < n {
+        let stack = s.stacks[i];
+        if is_running(stack) {
+            return i;
+        }
+        i += 1;
+    }
+    i
+}
+
+fn is_awaiting(id: Number, stack: Stack) -> bool
+    ensures { λ r. ⌜ r ≡ isAwaiting id (viewStack stack) ⌝ }
+{
+    let top = stack.top;
+    if id != top.id {
+        return false;
+    }
+    let status = top.status;
+    origin::is_waiting(status)
+}
+
+// The stack whose top has this id and waits for an outcome.
+pub fn waiting_place(s: State, id: Number) -> usize
+    ensures { λ r. ⌜ r ≡ position (isAwaiting id) (viewStacks s) ⌝ }
+{
+    let n = stacks::stacked_of(s);
+    let mut i: usize = 0;
+    while i < n {
+        let stack = s.stacks[i];
+        if is_awaiting(id, stack) {
+            return i;
+        }
+        i += 1;
+    }
+    i
+}
+
+fn is_poster(origin: Origin, stack: Stack) -> bool
+    ensures { λ r. ⌜ r ≡ isPoster origin (viewStack stack) ⌝ }
+{
+    let top = stack.top;
+    let status = top.status;
+    if !origin::is_suspended(status) {
+        return false;
+    }
+    let goal = origin::goal_of(top);
+    origin::is_same_origin(origin, goal)
+}
+
+// The stack whose top posted this goal.
+pub fn poster_place(s: State, origin: Origin) -> usize
+    ensures { λ r. ⌜ r ≡ position (isPoster origin) (viewStacks s) ⌝ }
+{
+    let n = stacks::stacked_of(s);
+    let mut i: usize = 0;
+    while i < n {
+        let stack = s.stacks[i];
+        if is_poster(origin, stack) {
+            return i;
+        }
+        i += 1;
+    }
+    i
+}
