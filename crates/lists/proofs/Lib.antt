@@ -11,3 +11,4 @@ pub mod CountLaws
 pub mod TestCounts
 pub mod LikeLaws
 pub mod PlaceLaws
+pub mod AndLaws

@@ -23,6 +23,10 @@ mostBelow = 7
 abbrev pub noInstance : Instance
 noInstance = record { id = 0; plan = 0; env = record { terms = [] }; state = 0; tried = 0; status = Active }
 
+-- what stands where no stack is
+abbrev pub noStack : Stack
+noStack = record { top = noInstance; below = []; depth = 0; external = 0 }
+
 -- ---- A stack
 
 -- how many places below the top are in use

@@ -91,7 +91,7 @@ fn is_goal_of(instance: Number, state: u16, branch: u16, other: Origin) -> bool
 }
 
 // Events are told apart by origin.
-pub fn is_same_origin(origin: Origin, other: Origin) -> bool
+pub fn same_origin(origin: Origin, other: Origin) -> bool
     ensures { λ r. ⌜ r ≡ sameOrigin origin other ⌝ }
 {
     match origin {

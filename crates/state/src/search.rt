@@ -28,7 +28,7 @@ fn has_posted(stack: Stack, origin: Origin) -> bool
         let x = stack.below[i];
         let goal = origin::goal_of(x);
         i += 1;
-        if origin::is_same_origin(origin, goal) {
+        if origin::same_origin(origin, goal) {
             return true;
         }
     }
@@ -40,7 +40,7 @@ fn is_served_by(stack: Stack, origin: Origin) -> bool
     ensures { λ r. ⌜ r ≡ any (serves origin) (jobsOf (viewStack stack)) ⌝ }
 {
     let bottom = Origin::External(stack.external);
-    if origin::is_same_origin(origin, bottom) {
+    if origin::same_origin(origin, bottom) {
         return true;
     }
     has_posted(stack, origin)
@@ -101,7 +101,7 @@ pub fn event_place(s: State, origin: Origin) -> usize
     while i < n {
         let event = s.queue[i];
         let other = event.origin;
-        if origin::is_same_origin(origin, other) {
+        if origin::same_origin(origin, other) {
             return i;
         }
         i += 1;
@@ -169,7 +169,7 @@ fn is_poster(origin: Origin, stack: Stack) -> bool
         return false;
     }
     let goal = origin::goal_of(top);
-    origin::is_same_origin(origin, goal)
+    origin::same_origin(origin, goal)
 }
 
 // The stack whose top posted this goal.

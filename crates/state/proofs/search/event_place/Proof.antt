@@ -29,8 +29,8 @@ mul-event c = search needs
 element-copy-out-event : tie.Need-element-copy-out-event Inv-loop μ-loop
 element-copy-out-event c = search needs
 
-is-same-origin-requires : tie.Need-is-same-origin-requires Inv-loop μ-loop
-is-same-origin-requires c κs = search needs
+same-origin-requires : tie.Need-same-origin-requires Inv-loop μ-loop
+same-origin-requires c κs = search needs
 
 returns : tie.Need-returns Inv-loop μ-loop
 returns c =
@@ -39,7 +39,7 @@ returns c =
     let n = (c .before .before .before .before .before .queued-of) .result in
     let size = (c .before .before .before .before .before .queued-of) .ensures in
     let len : length (a .t1 .queue) ≡ 88 = search (needs, length-mapped) in
-    let hit = search-hit (isOf (a .origin)) (a .t1 .queue) n 0 (l .i) _ (omega arith) (omega arith) (l .inv .1) (sym ((c .before .is-same-origin) .ensures) ∙ (c .if1) .taken) in
+    let hit = search-hit (isOf (a .origin)) (a .t1 .queue) n 0 (l .i) _ (omega arith) (omega arith) (l .inv .1) (sym ((c .before .same-origin) .ensures) ∙ (c .if1) .taken) in
     queue-place (a .t1) n (l .i) (isOf (a .origin)) size hit
 
 add-i : tie.Need-add-i Inv-loop μ-loop
@@ -55,7 +55,7 @@ loop-again c =
     let n = (c .before .before .before .before .before .queued-of) .result in
     let size = (c .before .before .before .before .before .queued-of) .ensures in
     let len : length (a .t1 .queue) ≡ 88 = search (needs, length-mapped) in
-    (omega arith, search-miss (isOf (a .origin)) (a .t1 .queue) n 0 (l .i) _ (omega arith) (omega arith) (l .inv .1) (sym ((c .before .is-same-origin) .ensures) ∙ (c .if1) .left))
+    (omega arith, search-miss (isOf (a .origin)) (a .t1 .queue) n 0 (l .i) _ (omega arith) (omega arith) (l .inv .1) (sym ((c .before .same-origin) .ensures) ∙ (c .if1) .left))
 
 returns-2 : tie.Need-returns-2 Inv-loop μ-loop
 returns-2 c =
@@ -75,7 +75,7 @@ event-place-spec =
     loop-holds
     mul-event
     element-copy-out-event
-    is-same-origin-requires
+    same-origin-requires
     returns
     add-i
     loop-less

@@ -36,8 +36,8 @@ goal-of-requires c κs = search needs
 add-i : tie.Need-add-i Inv-loop μ-loop
 add-i c = search needs
 
-is-same-origin-requires : tie.Need-is-same-origin-requires Inv-loop μ-loop
-is-same-origin-requires c κs = search needs
+same-origin-requires : tie.Need-same-origin-requires Inv-loop μ-loop
+same-origin-requires c κs = search needs
 
 returns : tie.Need-returns Inv-loop μ-loop
 returns c =
@@ -46,7 +46,7 @@ returns c =
     let n = (c .before .before .before .before .before .before .depth-of) .result in
     let size = (c .before .before .before .before .before .before .depth-of) .ensures in
     let len : length (a .t1 .below) ≡ 7 = search (needs, length-mapped) in
-    let here = ap (sameOrigin (a .origin)) (sym ((c .before .before .goal-of) .ensures)) ∙ sym ((c .before .is-same-origin) .ensures) ∙ (c .if1) .taken in
+    let here = ap (sameOrigin (a .origin)) (sym ((c .before .before .goal-of) .ensures)) ∙ sym ((c .before .same-origin) .ensures) ∙ (c .if1) .taken in
     sym (ap (λ (m : ℕ). any (hasGoal (a .origin)) (take m (a .t1 .below))) (sym size)
     ∙ any-hit (hasGoal (a .origin)) (a .t1 .below) n 0 (l .i) _ (omega arith) (omega arith) (l .inv .1) here)
 
@@ -60,7 +60,7 @@ loop-again c =
     let n = (c .before .before .before .before .before .before .depth-of) .result in
     let size = (c .before .before .before .before .before .before .depth-of) .ensures in
     let len : length (a .t1 .below) ≡ 7 = search (needs, length-mapped) in
-    let here = ap (sameOrigin (a .origin)) (sym ((c .before .before .goal-of) .ensures)) ∙ sym ((c .before .is-same-origin) .ensures) ∙ (c .if1) .left in
+    let here = ap (sameOrigin (a .origin)) (sym ((c .before .before .goal-of) .ensures)) ∙ sym ((c .before .same-origin) .ensures) ∙ (c .if1) .left in
     (omega arith, any-next (hasGoal (a .origin)) (a .t1 .below) n 0 (l .i) _ (omega arith) (omega arith) (l .inv .1) here)
 
 returns-2 : tie.Need-returns-2 Inv-loop μ-loop
@@ -83,7 +83,7 @@ has-posted-spec =
     element-copy-out-x
     goal-of-requires
     add-i
-    is-same-origin-requires
+    same-origin-requires
     returns
     loop-less
     loop-again

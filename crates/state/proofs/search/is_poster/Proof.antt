@@ -15,13 +15,13 @@ returns c = let e = sym ((c .before .is-suspended) .ensures) ∙ not-true _ ((c 
 goal-of-requires : tie.Need-goal-of-requires
 goal-of-requires c κs = search needs
 
-is-same-origin-requires : tie.Need-is-same-origin-requires
-is-same-origin-requires c κs = search needs
+same-origin-requires : tie.Need-same-origin-requires
+same-origin-requires c κs = search needs
 
 returns-2 : tie.Need-returns-2
-returns-2 c = let e = sym ((c .before .before .before .is-suspended) .ensures) ∙ not-false _ ((c .before .before .if1) .left) in rw e ((c .is-same-origin) .ensures ∙ ap (sameOrigin ((c .before .before .before .before .before .args) .origin)) ((c .before .goal-of) .ensures))
+returns-2 c = let e = sym ((c .before .before .before .is-suspended) .ensures) ∙ not-false _ ((c .before .before .if1) .left) in rw e ((c .same-origin) .ensures ∙ ap (sameOrigin ((c .before .before .before .before .before .args) .origin)) ((c .before .goal-of) .ensures))
 
 pub is-poster-spec : {M : Type 1} → statement M
 is-poster-spec =
     tie.close
-    (tie.spec is-suspended-requires returns goal-of-requires is-same-origin-requires returns-2)
+    (tie.spec is-suspended-requires returns goal-of-requires same-origin-requires returns-2)

@@ -1,7 +1,7 @@
--- `state::origin::is_same_origin` meets its contract, by cases on the first origin.
+-- `state::origin::same_origin` meets its contract, by cases on the first origin.
 use borrow.Author.Needs.{needs}
-use Rattle.state.proofs.origin.is_same_origin.Statement.{statement}
-use Rattle.state.proofs.origin.is_same_origin.Tie as tie
+use Rattle.state.proofs.origin.same_origin.Statement.{statement}
+use Rattle.state.proofs.origin.same_origin.Tie as tie
 
 enum-known-origin : tie.Need-enum-known-origin
 enum-known-origin c = search needs
@@ -21,8 +21,8 @@ returns c = rw ((c .before .before .origin) .given .1) ((c .is-external-of) .ens
 returns-2 : tie.Need-returns-2
 returns-2 c = rw ((c .before .before .origin2) .given .1) ((c .is-goal-of) .ensures)
 
-pub is-same-origin-spec : {M : Type 1} → statement M
-is-same-origin-spec =
+pub same-origin-spec : {M : Type 1} → statement M
+same-origin-spec =
     tie.close
     (tie.spec
     enum-known-origin

@@ -1,0 +1,14 @@
+pub mod PlaceLaws
+pub mod OutcomeLaws
+pub mod LoadLaws
+pub mod AlteredLaws
+pub mod EventLaws
+pub mod TakeUpLaws
+pub mod ReportLaws
+pub mod CountLaws
+pub mod TrialLaws
+pub mod TurnLaws
+pub mod FormedFacts
+pub mod CycleLaws
+pub mod CallsLaws
+pub mod ChainLaws

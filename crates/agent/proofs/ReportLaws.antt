@@ -1,0 +1,206 @@
+-- What the code of a report answers, in the model's terms.
+use Prim.Native.Nat.{ℕ, suc, _+_, _-_, _<_, _≤_}
+use native.Mathlib.Omega.{arith}
+use mathlib.Core.Path.{_≡_, refl, ap, sym, subst⁻¹, _∙_}
+use mathlib.Core.Bool.{Bool, true, false}
+use mathlib.Core.List.{List, [], _∷_, _++_}
+use lib.ListN.{length, take, getD}
+use lib.Seq.{take-suc}
+use lib.Dec.{leb}
+use borrow.Author.Tests.{leb-false, le-leb, lt-leb, le-ltb, lt-ltb, eq-eqb, ne-eqb}
+use Rattle.lists.specs.Counts.{bit, count}
+use Rattle.lists.proofs.CountLaws.{total-append}
+use Rattle.belief.specs.declared.Beliefs.{Beliefs}
+use Rattle.belief.specs.declared.Change.{Change}
+use Rattle.belief.specs.declared.Applied.{Applied}
+use Rattle.belief.specs.Beliefs.{view, holds, replay}
+use Rattle.belief.proofs.TableSteps.{length-view}
+use Rattle.literal.specs.declared.Literal.{Literal}
+use Rattle.literal.specs.Literal.{isGround}
+use Rattle.model.specs.declared.Event.{Event}
+use Rattle.model.specs.declared.Answer.the-variants.{Taken, Refused}
+use Rattle.model.specs.State.{AgentState, reply, refuse}
+use Rattle.model.specs.Live.{isExternal}
+use Rattle.model.specs.Report.{isReportable, isOverfull, reportRefusal, reportChanges}
+use Rattle.model.specs.Report.{newEvent, takeIn, reportBy, reported}
+use Rattle.model.specs.Changes.{changeOf, effective}
+use Rattle.lists.proofs.BoolLaws.{by-cases, both-ways}
+use Rattle.state.specs.declared.State.{State}
+use Rattle.state.specs.View.{viewQueue, viewStacks, viewState, countsFit}
+use Rattle.state.specs.Queue.{enqueue}
+use Rattle.state.proofs.StateLaws.{enqueue-state}
+use Rattle.agent.specs.declared.Acted.{Acted}
+use Rattle.agent.specs.declared.changes.Altered.{Altered}
+use Rattle.agent.specs.Altered.{untouched, Alters, Extends, Changed}
+use Rattle.agent.specs.View.{plainly}
+use Rattle.agent.specs.Report.{takenIn, changedTo, Hears, Reports, TakesIn, Reported}
+use Rattle.agent.proofs.AlteredLaws.{first-change}
+use Rattle.agent.proofs.CountLaws.{counts-parts, counts-whole}
+
+-- one event more, from the end
+pub count-back : (test : Event → Bool) (xs : List Event) (n : ℕ) (d : Event) (b : Bool) → 0 < n → n ≤ length xs → test (getD xs (n - 1) d) ≡ b
+    → count test (take n xs) ≡ count test (take (n - 1) xs) + bit b
+count-back test xs n d b low high e =
+    let s : n ≡ suc (n - 1) = omega arith in
+    ap (λ (m : ℕ). count test (take m xs)) s
+    ∙ ap (count test) (take-suc xs (n - 1) d (omega arith))
+    ∙ total-append (λ x. bit (test x)) (take (n - 1) xs) (getD xs (n - 1) d ∷ [])
+    ∙ ap (λ (m : ℕ). count test (take (n - 1) xs) + m) (let z = ap bit e in omega arith)
+
+-- ---- Tests
+
+pub reportable-kind : (kind : ℕ) (l : Literal) → 2 < kind → false ≡ isReportable kind l
+unfolding isReportable
+reportable-kind kind l h = rw (lt-leb kind 2 h)
+
+pub reportable-ground : (kind : ℕ) (l : Literal) → kind ≤ 2 → isGround l ≡ isReportable kind l
+unfolding isReportable
+reportable-ground kind l h = rw (le-leb kind 2 h)
+
+module _ (b : Beliefs) (kind : ℕ) (l : Literal) where
+  pub overfull-kind : (kind ≡ 0 → ⊥) → false ≡ isOverfull (view b) kind l
+  unfolding isOverfull
+  overfull-kind h = rw (ne-eqb kind 0 h)
+
+  module _ (k : kind ≡ 0) where
+    pub overfull-held : holds (view b) l ≡ true → false ≡ isOverfull (view b) kind l
+    unfolding isOverfull
+    overfull-held h = rw (eq-eqb kind 0 k, h)
+
+    pub overfull-new : holds (view b) l ≡ false → length (b .items) ≡ 64 → b .count ≤ 64 → leb 64 (b .count) ≡ isOverfull (view b) kind l
+    unfolding isOverfull
+    overfull-new h len few =
+        let n : b .count ≡ length (view b) = sym (length-view b len ∙ omega arith) in
+        rw (eq-eqb kind 0 k, h) (ap (leb 64) n)
+
+-- ---- The refusal's number
+
+module _ (s : AgentState) (kind : ℕ) (l : Literal) where
+  pub refusal-5 : isReportable kind l ≡ false → 5 ≡ reportRefusal s kind l
+  unfolding reportRefusal
+  refusal-5 h = rw h
+
+  module _ (a : isReportable kind l ≡ true) where
+    pub refusal-9 : 65535 ≤ s .taken → 9 ≡ reportRefusal s kind l
+    unfolding reportRefusal
+    refusal-9 h = rw (a, le-leb 65535 (s .taken) h)
+
+    module _ (b : s .taken < 65535) where
+      pub refusal-7 : 32 ≤ count isExternal (s .queue) → 7 ≡ reportRefusal s kind l
+      unfolding reportRefusal
+      refusal-7 h = rw (a, lt-leb 65535 (s .taken) b, le-leb 32 (count isExternal (s .queue)) h)
+
+      module _ (c : count isExternal (s .queue) < 32) where
+        pub refusal-6 : isOverfull (s .beliefs) kind l ≡ true → 6 ≡ reportRefusal s kind l
+        unfolding reportRefusal
+        refusal-6 h = rw (a, lt-leb 65535 (s .taken) b, lt-leb 32 (count isExternal (s .queue)) c, h)
+
+        pub refusal-0 : isOverfull (s .beliefs) kind l ≡ false → 0 ≡ reportRefusal s kind l
+        unfolding reportRefusal
+        refusal-0 h = rw (a, lt-leb 65535 (s .taken) b, lt-leb 32 (count isExternal (s .queue)) c, h)
+
+-- ---- The changes
+
+pub changes-told : (beliefs : List Literal) (kind : ℕ) (l : Literal) → 2 ≤ kind → reportChanges beliefs kind l ≡ []
+unfolding reportChanges
+changes-told beliefs kind l h = rw (le-ltb kind 2 h)
+
+pub changes-one : (beliefs : List Literal) (kind : ℕ) (l : Literal) → kind < 2 → reportChanges beliefs kind l ≡ effective beliefs (changeOf kind l)
+unfolding reportChanges
+changes-one beliefs kind l h = rw (lt-ltb kind 2 h)
+
+module _ (b : Beliefs) (t : Altered) (e : t ≡ untouched b) where
+  -- a told event changes nothing
+  pub told-alters : (kind : ℕ) (l : Literal) → 2 ≤ kind → b .count ≤ 64 → Alters b (reportChanges (view b) kind l) t
+  unfolding replay
+  told-alters kind l h few =
+      let none = changes-told (view b) kind l h in
+      subst⁻¹ (λ (cs : List Change). Alters b cs t) none (subst⁻¹ (Alters b []) e (record { noted = refl; table = refl; few = few }))
+
+  -- there is room for the first change
+  pub first-room : (c : Change) (applied : Applied) → Changed b c applied → (t .count < 4) × Changed (t .table) c applied
+  first-room c applied h =
+      subst⁻¹ (λ (a : Altered). (a .count < 4) × Changed (a .table) c applied) e (omega arith, h)
+
+  -- one change
+  pub first-alters : (kind : ℕ) (l : Literal) (c : Change) → c ≡ changeOf kind l → kind < 2 → (a : Altered) → Extends t (effective (view (t .table)) c) a
+      → Alters b (reportChanges (view b) kind l) a
+  first-alters kind l c p h a x =
+      let one = changes-one (view b) kind l h ∙ ap (effective (view b)) (sym p) in
+      subst⁻¹ (λ (cs : List Change). Alters b cs a) one (first-change b t a c e x)
+
+-- ---- Taking the report in
+
+module _ (s : State) (kind : ℕ) (l : Literal) (p : Reports s) (lens : (length (s .queue) ≡ 88) × (length (s .stacks) ≡ 8)) where
+  -- the counts after it
+  fits-in : (table : Beliefs) (number : ℕ) (event : Event) → table .count ≤ 64 → countsFit (changedTo (enqueue s event) table number) ≡ true
+  unfolding enqueue
+  fits-in table number event few =
+      let old = counts-parts s (p .fit) in
+      let room = p .room in
+      rw (lt-ltb (s .queued) 88 room) (counts-whole _ (record { beliefs = few; queued = omega arith; stacked = old .stacked; depths = old .depths }))
+
+  -- the state after it
+  state-in : (t : Altered) (number : ℕ) (event : Event) → Alters (s .beliefs) (reportChanges (view (s .beliefs)) kind l) t → event ≡ newEvent number kind l
+      → viewState (changedTo (enqueue s event) (t .table) number)
+      ≡ record { beliefs = replay (view (s .beliefs)) (reportChanges (view (s .beliefs)) kind l); queue = viewQueue s ++ (newEvent number kind l ∷ []); stacks = viewStacks s; taken = number; made = s .made }
+  state-in t number event a v =
+      let w = enqueue-state s event (lens .0) (p .room) in
+      let b = a .table in
+      λ i. record {
+        beliefs = b i;
+        queue = (ap (λ (x : AgentState). x .queue) w ∙ ap (λ (x : Event). viewQueue s ++ (x ∷ [])) v) i;
+        stacks = w i .stacks;
+        taken = number;
+        made = w i .made;
+      }
+
+  pub taken-in : (t : Altered) → Alters (s .beliefs) (reportChanges (view (s .beliefs)) kind l) t → (number : ℕ) → number ≡ s .taken + 1
+      → (event : Event) → event ≡ newEvent number kind l → (next : State) → next ≡ enqueue s event
+      → (r : Acted) → r ≡ takenIn next t number → TakesIn s kind l r
+  unfolding takeIn
+  taken-in t a number n event v next w r z =
+      let from = z ∙ ap (λ (x : State). takenIn x t number) w in
+      let changes = a .noted in
+      let state = state-in t number event a v in
+      let means = (λ i. reply (Taken number) (changes i) (state i)) ∙ ap (λ (m : ℕ). reply (Taken m) (reportChanges (view (s .beliefs)) kind l) (arrived m)) n in
+      subst⁻¹ (TakesIn s kind l) from (record { means = means; kept = record { fit = fits-in (t .table) number event (a .few); refused = λ x. both-ways {b = false} x refl } })
+    where
+      arrived : ℕ → AgentState
+      arrived m = record {
+        beliefs = replay (view (s .beliefs)) (reportChanges (view (s .beliefs)) kind l);
+        queue = viewQueue s ++ (newEvent m kind l ∷ []);
+        stacks = viewStacks s;
+        taken = m;
+        made = s .made;
+      }
+
+-- ---- The report
+
+-- a report that is not refused has a number left
+spent : (s : AgentState) (kind : ℕ) (l : Literal) → reportRefusal s kind l ≡ 0 → s .taken < 65535
+unfolding reportRefusal
+spent s kind l e = by-cases (isReportable kind l)
+    (λ a. by-cases (leb 65535 (s .taken)) (λ b. never (rw (a, b) at e)) (λ b. leb-false 65535 (s .taken) b))
+    (λ a. never (rw a at e))
+  where
+    never : {P : Type 0} {n : ℕ} → suc n ≡ 0 → P
+    never z = absurd (omega arith)
+
+module _ (s : State) (kind : ℕ) (l : Literal) (p : Hears s kind l) (refusal : ℕ) (e : refusal ≡ reportRefusal (viewState s) kind l) where
+  by-number : reported (viewState s) kind l ≡ reportBy (viewState s) kind l refusal
+  unfolding reported
+  by-number = ap (reportBy (viewState s) kind l) (sym e)
+
+  pub reported-refused : (refusal ≡ 0 → ⊥) → (r : Acted) → r ≡ plainly s (Refused refusal) → Reported s kind l r
+  unfolding reportBy
+  reported-refused h r z =
+      let means : refuse refusal (viewState s) ≡ reported (viewState s) kind l = sym (by-number ∙ rw (ne-eqb refusal 0 h)) in
+      subst⁻¹ (Reported s kind l) z (record { means = means; kept = record { fit = p .fit; refused = λ x. refl } })
+
+  pub reports : refusal ≡ 0 → Reports s
+  reports h = record { fit = p .fit; number = spent (viewState s) kind l (sym e ∙ h); room = p .room (sym e ∙ h) }
+
+  pub reported-taken : refusal ≡ 0 → (r : Acted) → TakesIn s kind l r → Reported s kind l r
+  unfolding reportBy
+  reported-taken h r t = record { means = t .means ∙ sym (by-number ∙ rw (eq-eqb refusal 0 h)); kept = t .kept }

@@ -1,0 +1,68 @@
+-- `agent::ends::raised` meets its contract: the stack goes where its top was alone, else the one below steps past its goal.
+use borrow.Author.Needs.{needs}
+use native.Mathlib.Omega.{arith}
+use Prim.Native.Nat.{_<_}
+use denote.Ref.{now}
+use mathlib.Core.Path.{_≡_, ap, sym, _∙_}
+use mathlib.Core.List.{List}
+use Rattle.library.specs.Layout.{libraryOf}
+use Rattle.model.specs.Instance.{pastGoal}
+use Rattle.model.specs.State.{Intention}
+use Rattle.state.specs.View.{depthOf, viewState}
+use Rattle.state.specs.Stacks.{pop}
+use Rattle.state.proofs.StackLaws.{pop-none}
+use Rattle.agent.specs.Turnable.{ended}
+use Rattle.agent.proofs.TurnLaws.{replies-as, pops}
+use Rattle.agent.proofs.ends.raised.Statement.{statement}
+use Rattle.agent.proofs.ends.raised.Tie as tie
+
+depth-of-requires : tie.Need-depth-of-requires
+depth-of-requires c κs = search needs
+
+emptied-requires : tie.Need-emptied-requires
+emptied-requires c κs = search needs
+
+returns : tie.Need-returns
+returns c =
+    let a = (c .before .before .before .before .args) in
+    let bottom : depthOf (a .stack) ≡ 0 = omega (arith, (c .before .before .depth-of) .ensures, (c .before .if1)) in
+    replies-as (ap (λ (ks : List Intention). ended (viewState (a .s)) (a .place) ks (a .answer) (a .altered))
+    (sym (pop-none (a .stack) (pastGoal (libraryOf (now (a .library)))) bottom)))
+    ((c .emptied) .ensures)
+
+under-top-requires : tie.Need-under-top-requires
+under-top-requires c κs = search needs
+
+past-goal-requires : tie.Need-past-goal-requires
+past-goal-requires c κs =
+    let above : 0 < depthOf ((c .before .before .before .before .args) .stack) = omega (arith, (c .before .before .depth-of) .ensures, (c .before .if1)) in
+    rw ((c .under-top) .ensures) ((c .before .before .before .before .pre) .1 .1 above)
+
+popped-requires : tie.Need-popped-requires
+popped-requires c κs = search needs
+
+turned-requires : tie.Need-turned-requires
+unfolding pop
+turned-requires c κs = ((c .before .before .before .before .before .before .pre) .0, (rw ((c .popped) .ensures) (omega arith), (c .before .before .before .before .before .before .pre) .1 .0))
+
+returns-2 : tie.Need-returns-2
+returns-2 c =
+    let a = (c .before .before .before .before .before .before .before .args) in
+    let above : 0 < depthOf (a .stack) = omega (arith, (c .before .before .before .before .before .depth-of) .ensures, (c .before .before .before .before .if1)) in
+    let change = pastGoal (libraryOf (now (a .library))) in
+    replies-as (ap (λ (ks : List Intention). ended (viewState (a .s)) (a .place) ks (a .answer) (a .altered))
+    (pops (a .stack) ((c .before .popped) .result) change ((c .before .before .past-goal) .result) above ((c .before .popped) .ensures) ((c .before .before .past-goal) .ensures ∙ ap change ((c .before .before .before .under-top) .ensures))))
+    ((c .turned) .ensures)
+
+pub raised-spec : {M : Type 1} → statement M
+raised-spec =
+    tie.close
+    (tie.spec
+    depth-of-requires
+    emptied-requires
+    returns
+    under-top-requires
+    past-goal-requires
+    popped-requires
+    turned-requires
+    returns-2)

@@ -1,0 +1,65 @@
+-- `agent::ends::succeed` meets its contract: the list runs, the event is closed, and the poster below steps past its goal.
+use borrow.Author.Needs.{needs}
+use denote.Ref.{now}
+use mathlib.Core.Path.{_≡_}
+use Rattle.belief.specs.Beliefs.{view}
+use Rattle.library.specs.Layout.{libraryOf}
+use Rattle.library.specs.Layout as layout
+use Rattle.library.proofs.Accepted.{plan-ok}
+use Rattle.model.specs.Changes.{effects}
+use mathlib.Core.Bool.{true}
+use Rattle.model.specs.declared.Answer.the-variants.{Succeeded}
+use Rattle.model.specs.Instance.{planOf, pastGoal}
+use Rattle.model.specs.End.{servedBy, closeEvent, popped, endTop, succeed}
+use Rattle.state.specs.View.{viewStack, viewQueue, viewState}
+use Rattle.agent.specs.Altered.{Alters}
+use Rattle.agent.specs.Turnable.{requeued}
+use Rattle.agent.proofs.AlteredLaws.{list-short}
+use Rattle.agent.proofs.CountLaws.{counts-parts}
+use Rattle.agent.proofs.TurnLaws.{replies-as, ended-after, plan-read}
+use Rattle.agent.proofs.ends.succeed.Statement.{statement}
+use Rattle.agent.proofs.ends.succeed.Tie as tie
+
+cast-list-run : tie.Need-cast-list-run
+cast-list-run c = search needs
+
+list-run-requires : tie.Need-list-run-requires
+list-run-requires c κs =
+    let a = (c .before .before .before .before .before .args) in
+    let plan = a .stack .top .plan in
+    let bytes = now (a .library) in
+    (list-short (layout.planOf bytes plan) true (plan-ok bytes ((c .before .before .before .before .before .pre) .accepted) plan ((c .before .before .before .before .before .pre) .plan)), counts-parts (a .s) ((c .before .before .before .before .before .pre) .standing .counts) .beliefs)
+
+served-by-requires : tie.Need-served-by-requires
+served-by-requires c κs = search needs
+
+with-closed-requires : tie.Need-with-closed-requires
+with-closed-requires c κs = (c .before .before .before .before .before .before .before .pre) .standing
+
+raised-requires : tie.Need-raised-requires
+raised-requires c κs = ((c .with-closed) .ensures .standing, ((c .before .before .list-run) .ensures .few, (c .before .before .before .before .before .before .before .before .pre) .poster))
+
+returns : tie.Need-returns
+unfolding succeed endTop
+returns c =
+    let a = (c .before .before .before .before .before .before .before .before .before .args) in
+    let x = a .stack .top in
+    let bytes = now (a .library) in
+    let actions = planOf (libraryOf bytes) x .success in
+    let queue = closeEvent (servedBy (viewStack (a .stack))) (viewQueue (a .s)) in
+    let alters : Alters (a .s .beliefs) (effects (view (a .s .beliefs)) (x .env) actions) ((c .before .before .before .list-run) .result) = rw (plan-read bytes x ((c .before .before .before .before .before .before .before .before .before .pre) .plan)) ((c .before .before .before .list-run) .ensures) in
+    let shown : viewState ((c .before .with-closed) .result) ≡ requeued (viewState (a .s)) queue = rw ((c .before .before .served-by) .ensures) at ((c .before .with-closed) .ensures .shown) in
+    replies-as (ended-after (a .s) ((c .before .with-closed) .result) (a .place) (a .stack) (popped (a .stack .external) (pastGoal (libraryOf bytes)) (viewStack (a .stack) .below)) (Succeeded (x .id))
+    (effects (view (a .s .beliefs)) (x .env) actions) queue ((c .before .before .before .list-run) .result) alters shown)
+    ((c .raised) .ensures)
+
+pub succeed-spec : {M : Type 1} → statement M
+succeed-spec =
+    tie.close
+    (tie.spec
+    cast-list-run
+    list-run-requires
+    served-by-requires
+    with-closed-requires
+    raised-requires
+    returns)

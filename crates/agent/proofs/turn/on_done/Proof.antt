@@ -1,0 +1,29 @@
+-- `agent::turn::on_done` meets its contract: one branch more is tried, and the stack goes last.
+use borrow.Author.Needs.{needs}
+use mathlib.Core.Path.{refl, ap, _∙_}
+use mathlib.Core.List.{[], _∷_}
+use Rattle.model.specs.declared.Answer.the-variants.{Done}
+use Rattle.model.specs.declared.Instance.{Instance}
+use Rattle.model.specs.Try.{withTop, tried}
+use Rattle.state.specs.View.{viewStack, viewQueue, viewState}
+use Rattle.agent.specs.Turnable.{ended}
+use Rattle.agent.proofs.TurnLaws.{replies-as, ended-after}
+use Rattle.agent.proofs.turn.on_done.Statement.{statement}
+use Rattle.agent.proofs.turn.on_done.Tie as tie
+
+with-try-requires : tie.Need-with-try-requires
+with-try-requires c κs = search needs
+
+turned-requires : tie.Need-turned-requires
+turned-requires c κs = ((c .before .before .before .pre) .0, ((c .before .before .before .pre) .1 .0, (c .before .before .before .pre) .1 .1 .1 .few))
+
+returns : tie.Need-returns
+unfolding tried
+returns c =
+    let a = (c .before .before .before .before .args) in
+    replies-as (ap (λ (x : Instance). ended (viewState (a .s)) (a .place) (withTop (viewStack (a .stack)) x ∷ []) (Done (a .stack .top .id) (a .stack .top .state) (a .stack .top .tried) (a .l)) (a .altered)) ((c .before .before .with-try) .ensures)
+    ∙ ended-after (a .s) (a .s) (a .place) (a .stack) _ _ [] (viewQueue (a .s)) (a .altered) ((c .before .before .before .before .pre) .1 .1 .1) refl)
+    ((c .turned) .ensures)
+
+pub on-done-spec : {M : Type 1} → statement M
+on-done-spec = tie.close (tie.spec with-try-requires turned-requires returns)

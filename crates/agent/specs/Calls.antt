@@ -1,0 +1,55 @@
+-- What the calls of an agent give (document 01, "The three calls", "Who may cause which refusal").
+use Prim.Native.Nat.{ℕ}
+use mathlib.Core.Path.{_≡_}
+use mathlib.Core.Bool.{Bool, true, _&&_}
+use mathlib.Core.List.{List}
+use lib.ListN.{length, take}
+use lib.Dec.{leb}
+use Rattle.library.specs.Layout.{libraryOf}
+use Rattle.model.specs.declared.Answer.the-variants.{Refused}
+use Rattle.model.specs.State.{Call, Reply}
+use Rattle.model.specs.Calls.{callBy}
+use Rattle.state.specs.declared.State.{State}
+use Rattle.state.specs.View.{viewState, countsFit}
+use Rattle.formed.specs.Formed.{isFormed}
+use Rattle.agent.specs.declared.Acted.{Acted}
+use Rattle.agent.specs.declared.Agent.{Agent}
+use Rattle.agent.specs.declared.Replied.{Replied}
+use Rattle.agent.specs.View.{viewResult, viewActed, plainly}
+use Rattle.agent.specs.Kept.{isRefusal}
+use Rattle.agent.specs.Load.{bytesOf}
+
+-- ---- An agent
+
+-- the library is accepted, its length and every count are within their arrays, and the state keeps every rule
+unfoldable pub isWellFormedAgent : Agent → Bool
+isWellFormedAgent a = leb (a .length) (length (a .library)) && isFormed (bytesOf a) (a .state)
+
+-- the model's reply that an answer means
+abbrev pub viewReplied : Replied → Reply
+viewReplied r = record { result = viewResult (r .result); state = viewState (r .agent .state) }
+
+-- the agent after a call, and its result: the model's, and 10 first where the agent is not well formed
+pub record Calls (a : Agent) (c : Call) (r : Replied) : Type 0 where
+  pub means : viewReplied r ≡ callBy (isWellFormedAgent a) (libraryOf (bytesOf a)) (viewState (a .state)) c
+  -- the library is the one it was
+  pub library : r .agent .library ≡ a .library
+  pub length : r .agent .length ≡ a .length
+  -- a refusal leaves every place of the agent as it was
+  pub refused : isRefusal (r .result .answer) ≡ true → r .agent ≡ a
+  -- every count stays within its array
+  pub fit : isWellFormedAgent a ≡ true → countsFit (r .agent .state) ≡ true
+
+-- ---- Its parts
+
+abbrev pub refusedTen : State → Acted
+refusedTen s = plainly s (Refused 10)
+
+abbrev pub withState : Agent → Acted → Replied
+withState a acted = record { agent = record { library = a .library; length = a .length; state = acted .state }; result = acted .result }
+
+-- the same for a library in the first bytes of an array, and a state
+pub record CallsOn (library : List ℕ) (size : ℕ) (s : State) (c : Call) (r : Acted) : Type 0 where
+  pub means : viewActed r ≡ callBy (leb size (length library) && isFormed (take size library) s) (libraryOf (take size library)) (viewState s) c
+  pub refused : isRefusal (r .result .answer) ≡ true → r .state ≡ s
+  pub fit : (leb size (length library) && isFormed (take size library) s) ≡ true → countsFit (r .state) ≡ true

@@ -1,0 +1,12 @@
+pub mod View
+pub mod Kept
+pub mod Outcome
+pub mod Load
+pub mod Altered
+pub mod Report
+pub mod TakeUp
+pub mod Trial
+pub mod Turnable
+pub mod Cycle
+pub mod Calls
+pub mod Chain

@@ -1,0 +1,138 @@
+// Belief changes: one change, and the actions of a plan's success or failure list.
+ghost use mathlib.Core.Path.{_≡_};
+ghost use Prim.Native.Nat.{_<_, _≤_};
+ghost use lib.ListN.{length, getD};
+ghost use Rattle.belief.specs.Beliefs.{view};
+ghost use Rattle.library.specs.Layout.{planOf};
+ghost use Rattle.library.specs.Plan.{noAction};
+ghost use Rattle.model.specs.Changes.{changeOf, effective, asChange, effects};
+ghost use Rattle.agent.specs.Altered.{untouched, Alters, Extends, Changed, listOf};
+use belief::Applied;
+use belief::Beliefs;
+use belief::Change;
+use library::Action;
+use library::plan;
+use literal::Env;
+use literal::Literal;
+
+// A kind of change: 0 adds, 1 removes.
+const REMOVE: u16 = 1;
+
+// A belief table after some changes, and those that took effect, the first `count` of the array.
+pub struct Altered {
+    pub table: Beliefs,
+    pub changes: [Change; 4],
+    pub count: usize,
+}
+
+pub(crate) fn change_of(kind: u16, l: Literal) -> Change
+    ensures { λ r. ⌜ r ≡ changeOf kind l ⌝ }
+{
+    Change {
+        removes: kind == REMOVE,
+        literal: l,
+    }
+}
+
+// The table after a change, whether it took effect and whether it was possible.
+pub(crate) fn with_change(b: Beliefs, c: Change) -> Applied
+    requires { ⌜ b .count ≤ 64 ⌝ }
+    ensures { λ r. ⌜ Changed b c r ⌝ }
+{
+    let l = c.literal;
+    if !literal::is_ground(l) {
+        return Applied {
+            table: b,
+            changed: false,
+            fitted: false,
+        };
+    }
+    if c.removes {
+        return belief::removed(b, l);
+    }
+    belief::added(b, l)
+}
+
+// No change yet.
+pub(crate) fn unaltered(b: Beliefs) -> Altered
+    ensures { λ r. ⌜ r ≡ untouched b ⌝ }
+{
+    let nothing = Literal {
+        head: 0,
+        first: 0,
+        second: 0,
+        third: 0,
+    };
+    let no_change = Change {
+        removes: false,
+        literal: nothing,
+    };
+    Altered {
+        table: b,
+        changes: [no_change; 4],
+        count: 0,
+    }
+}
+
+// The table after the change, which is noted if it took effect.
+pub(crate) fn noted(t: Altered, c: Change, applied: Applied) -> Altered
+    requires { ⌜ (t .count < 4) × Changed (t .table) c applied ⌝ }
+    ensures { λ r. ⌜ Extends t (effective (view (t .table)) c) r ⌝ }
+{
+    let table = applied.table;
+    let n = t.count;
+    let mut next = Altered { table: table, ..t };
+    if !applied.changed {
+        return next;
+    }
+    next.changes[n] = c;
+    next.count = n + 1;
+    next
+}
+
+// One action more.
+fn with_action(t: Altered, env: Env, action: Action) -> Altered
+    requires { ⌜ (t .count < 4) × (t .table .count ≤ 64) ⌝ }
+    ensures { λ r. ⌜ Extends t (effective (view (t .table)) (asChange env action)) r ⌝ }
+{
+    let l = action.literal;
+    let ground = literal::instantiated(env, l);
+    let c = change_of(action.kind, ground);
+    let table = t.table;
+    let applied = with_change(table, c);
+    noted(t, c, applied)
+}
+
+fn list_count(library: &[u8], plan: usize, succeeds: bool) -> u16
+    ensures { λ r. ⌜ r ≡ length (listOf succeeds (planOf (now (library .entry)) plan)) ⌝ }
+{
+    if succeeds {
+        return plan::success_count(library, plan);
+    }
+    plan::failure_count(library, plan)
+}
+
+fn list_action(library: &[u8], plan: usize, succeeds: bool, place: usize) -> Action
+    ensures { λ r. ⌜ r ≡ getD (listOf succeeds (planOf (now (library .entry)) plan)) place noAction ⌝ }
+{
+    if succeeds {
+        return plan::success_action(library, plan, place);
+    }
+    plan::failure_action(library, plan, place)
+}
+
+// A plan's success or failure list runs, under an environment.
+pub(crate) fn list_run(library: &[u8], plan: usize, succeeds: bool, env: Env, b: Beliefs) -> Altered
+    requires { ⌜ (length (listOf succeeds (planOf (now library) plan)) ≤ 4) × (b .count ≤ 64) ⌝ }
+    ensures { λ r. ⌜ Alters b (effects (view b) env (listOf succeeds (planOf (now (library .entry)) plan))) r ⌝ }
+{
+    let n = list_count(library, plan, succeeds) as usize;
+    let mut t = unaltered(b);
+    let mut i: usize = 0;
+    while i < n {
+        let action = list_action(library, plan, succeeds, i);
+        t = with_action(t, env, action);
+        i += 1;
+    }
+    t
+}

@@ -1,0 +1,29 @@
+// Cycle: a pending event is taken up, else a stack has its turn, else the agent is idle.
+ghost use Rattle.agent.specs.Cycle.{WellFormedState, Cycled};
+use crate::Acted;
+use crate::answer;
+use crate::event;
+use crate::turn;
+use model::Answer;
+use state::State;
+use state::queue;
+use state::search;
+use state::stacks;
+
+// One cycle, on a well-formed state of an accepted library.
+pub(crate) fn cycle_on(library: &[u8], s: State) -> Acted
+    requires { ⌜ WellFormedState (now library) s ⌝ }
+    ensures { λ r. ⌜ Cycled (now (library .entry)) s r ⌝ }
+{
+    let waiting = search::next_event(s);
+    let queued = queue::queued_of(s);
+    if waiting < queued {
+        return event::take_up(library, s, waiting);
+    }
+    let running = search::next_stack(s);
+    let stacked = stacks::stacked_of(s);
+    if running < stacked {
+        return turn::turn(library, s, running);
+    }
+    answer::acted(s, Answer::Idle)
+}

@@ -1,0 +1,152 @@
+// Load: the agent's own copy of the library, and its first state.
+ghost use mathlib.Core.Path.{_≡_};
+ghost use Prim.Native.Nat.{_≤_};
+ghost use lib.ListN.{length, take};
+ghost use Rattle.library.specs.Layout.{beliefsOf};
+ghost use Rattle.agent.specs.Load.{Starts, Refuses, Loads, Holds};
+use crate::Agent;
+use crate::Loaded;
+use crate::MOST_BYTES;
+use belief::Beliefs;
+use literal::Literal;
+use model::Event;
+use model::Instance;
+use model::Origin;
+use model::Status;
+use state::Stack;
+use state::State;
+
+// The bytes at the beginning of an array, zeros after them.
+fn copied(library: &[u8]) -> [u8; 19332]
+    requires { ⌜ length (now library) ≤ 19332 ⌝ }
+    ensures { λ r. ⌜ take (length (now (library .entry))) r ≡ now (library .entry) ⌝ }
+{
+    let mut copy = [0u8; 19332];
+    let mut i: usize = 0;
+    while i < library.len() {
+        copy[i] = library[i];
+        i += 1;
+    }
+    copy
+}
+
+// What stands where no literal is.
+fn no_literal() -> Literal {
+    Literal {
+        head: 0,
+        first: 0,
+        second: 0,
+        third: 0,
+    }
+}
+
+// A table without beliefs.
+fn no_beliefs() -> Beliefs
+    ensures { λ r. ⌜ r .count ≡ 0 ⌝ }
+{
+    let nothing = no_literal();
+    Beliefs {
+        items: [nothing; 64],
+        count: 0,
+    }
+}
+
+// The initial beliefs of a library.
+fn initial_beliefs(library: &[u8]) -> Beliefs
+    requires { ⌜ length (beliefsOf (now library)) ≤ 64 ⌝ }
+    ensures { λ r. ⌜ Holds (beliefsOf (now (library .entry))) r ⌝ }
+{
+    let mut table = no_beliefs();
+    let n = library::contents::belief_count(library) as usize;
+    let mut i: usize = 0;
+    while i < n {
+        let belief = library::contents::belief(library, i);
+        table.items[i] = belief;
+        i += 1;
+    }
+    table.count = n;
+    table
+}
+
+// A state with beliefs alone.
+fn first_state(beliefs: Beliefs) -> State
+    ensures { λ r. ⌜ Starts beliefs r ⌝ }
+{
+    let nothing = no_literal();
+    let event = Event {
+        origin: Origin::External(0),
+        kind: 0,
+        literal: nothing,
+        failed: 0,
+    };
+    let env = literal::empty_env();
+    let nobody = Instance {
+        id: 0,
+        plan: 0,
+        env: env,
+        state: 0,
+        tried: 0,
+        status: Status::Active,
+    };
+    let stack = Stack {
+        top: nobody,
+        below: [nobody; 7],
+        depth: 0,
+        external: 0,
+    };
+    State {
+        beliefs: beliefs,
+        queue: [event; 88],
+        queued: 0,
+        stacks: [stack; 8],
+        stacked: 0,
+        taken: 0,
+        made: 0,
+    }
+}
+
+// An agent without a library: every call on it is refused.
+fn no_agent(state: State) -> Agent
+    ensures { λ r. ⌜ (r .length ≡ 0) × (r .state ≡ state) ⌝ }
+{
+    Agent {
+        library: [0u8; 19332],
+        length: 0,
+        state: state,
+    }
+}
+
+// No agent is made.
+fn refused(refusal: u16) -> Loaded
+    ensures { λ r. ⌜ Refuses refusal r ⌝ }
+{
+    let nothing = no_beliefs();
+    let empty = first_state(nothing);
+    let agent = no_agent(empty);
+    Loaded {
+        refusal: refusal,
+        agent: agent,
+    }
+}
+
+// The agent of an accepted library, or the refusal's number and an agent without a library.
+pub fn load(library: &[u8]) -> Loaded
+    ensures { λ r. ⌜ Loads (now (library .entry)) r ⌝ }
+{
+    let refusal = library::refusal(library);
+    if refusal != 0 {
+        return refused(refusal);
+    }
+    let copy = copied(library);
+    let beliefs = initial_beliefs(library);
+    let state = first_state(beliefs);
+    let agent = Agent {
+        library: copy,
+        length: library.len(),
+        state: state,
+    };
+    Loaded {
+        refusal: refusal,
+        agent: agent,
+    }
+}

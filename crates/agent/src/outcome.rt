@@ -1,0 +1,109 @@
+// Outcome: the waiting instance steps past its action, or is missed; turn order stays.
+ghost use mathlib.Core.Path.{_≡_};
+ghost use Prim.Native.Nat.{_<_};
+ghost use Rattle.library.specs.Layout.{planCount, libraryOf};
+ghost use Rattle.model.specs.Instance.{awake, pastAction};
+ghost use Rattle.state.specs.Stacks.{replaceTop, putAt};
+ghost use Rattle.agent.specs.Outcome.{steppedOn, missedOn, Tells, Told};
+use crate::Acted;
+use crate::answer;
+use model::Answer;
+use model::Instance;
+use model::Number;
+use model::Status;
+use state::Stack;
+use state::State;
+use state::origin;
+use state::search;
+use state::stacks;
+
+// The refusal of an outcome for an id that is not waiting.
+const NOT_WAITING: u16 = 8;
+
+// The instance, active again where it was.
+pub(crate) fn awoken(x: Instance) -> Instance
+    ensures { λ r. ⌜ r ≡ awake x ⌝ }
+{
+    Instance {
+        status: Status::Active,
+        ..x
+    }
+}
+
+// The instance past the action that it waited for.
+fn past_action(library: &[u8], x: Instance) -> Instance
+    requires { ⌜ x .plan < planCount (now library) ⌝ }
+    ensures { λ r. ⌜ r ≡ pastAction (libraryOf (now (library .entry))) x ⌝ }
+{
+    let last = origin::last_tried(x);
+    let branch = library::plan::branch(library, x.plan as usize, x.state as usize, last as usize);
+    Instance {
+        state: branch.next,
+        tried: 0,
+        status: Status::Active,
+        ..x
+    }
+}
+
+// The state with another top on the stack at a place.
+fn with_top_at(s: State, place: usize, stack: Stack, x: Instance) -> State
+    ensures { λ r. ⌜ r ≡ putAt s place (replaceTop stack x) ⌝ }
+{
+    let next = Stack { top: x, ..stack };
+    stacks::with_stack_at(s, place, next)
+}
+
+// The action worked: the instance steps.
+fn step_on(library: &[u8], s: State, place: usize, stack: Stack) -> Acted
+    requires { ⌜ stack .top .plan < planCount (now library) ⌝ }
+    ensures { λ r. ⌜ r ≡ steppedOn (libraryOf (now (library .entry))) s place stack ⌝ }
+{
+    let x = stack.top;
+    let next = past_action(library, x);
+    let t = with_top_at(s, place, stack, next);
+    let last = origin::last_tried(x);
+    answer::acted(
+        t,
+        Answer::Stepped {
+            instance: x.id,
+            state: x.state,
+            branch: last,
+            next: next.state,
+        },
+    )
+}
+
+// The action did not work: the branch is missed.
+fn miss(s: State, place: usize, stack: Stack) -> Acted
+    ensures { λ r. ⌜ r ≡ missedOn s place stack ⌝ }
+{
+    let x = stack.top;
+    let next = awoken(x);
+    let t = with_top_at(s, place, stack, next);
+    let last = origin::last_tried(x);
+    answer::acted(
+        t,
+        Answer::Missed {
+            instance: x.id,
+            state: x.state,
+            branch: last,
+        },
+    )
+}
+
+// An outcome for an id, on a state whose counts fit.
+pub(crate) fn tell(library: &[u8], s: State, id: Number, worked: bool) -> Acted
+    requires { ⌜ Tells (now library) s id ⌝ }
+    ensures { λ r. ⌜ Told (now (library .entry)) s id worked r ⌝ }
+{
+    let place = search::waiting_place(s, id);
+    let n = stacks::stacked_of(s);
+    if n <= place {
+        return answer::acted(s, Answer::Refused(NOT_WAITING));
+    }
+    let stack = s.stacks[place];
+    if worked {
+        return step_on(library, s, place, stack);
+    }
+    miss(s, place, stack)
+}
