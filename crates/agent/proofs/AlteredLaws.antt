@@ -17,10 +17,10 @@ use Rattle.literal.specs.Literal.{isGround, same}
 use Rattle.belief.specs.declared.Beliefs.{Beliefs}
 use Rattle.belief.specs.declared.Change.{Change}
 use Rattle.belief.specs.declared.Applied.{Applied}
-use Rattle.belief.specs.Beliefs.{mostBeliefs, view, holds, change, replay}
+use Rattle.belief.specs.Beliefs.{mostBeliefs, view, holds, replay}
 use Rattle.belief.specs.Table.{addBy, add, removeBy, remove}
 use Rattle.belief.proofs.TableSteps.{length-view}
-use Rattle.belief.proofs.BeliefLaws.{add-view, remove-view, remove-changed}
+use Rattle.belief.proofs.BeliefLaws.{add-view, remove-view, remove-changed, replay-join}
 use Rattle.library.specs.declared.Action.{Action}
 use Rattle.library.specs.Plan.{Plan, noAction}
 use Rattle.library.specs.Rules.{atMost, situationOk, actionsOk, planOk}
@@ -168,11 +168,6 @@ first-change b t a c e h =
 
 -- ---- A list of actions
 
-replay-joined : (beliefs : List Literal) (xs ys : List Change) → replay beliefs (xs ++ ys) ≡ replay (replay beliefs xs) ys
-unfolding replay
-replay-joined beliefs [] ys = refl
-replay-joined beliefs (x ∷ xs) ys = replay-joined (change beliefs x) xs ys
-
 module _ (t u : Altered) (env : Env) (actions : List Action) (i : ℕ) (low : i < length actions)
     (e : Extends t (effective (view (t .table)) (asChange env (getD actions i noAction))) u) where
   pub effects-step : changesOf u ++ effects (view (u .table)) env (drop (i + 1) actions) ≡ changesOf t ++ effects (view (t .table)) env (drop i actions)
@@ -188,7 +183,7 @@ module _ (t u : Altered) (env : Env) (actions : List Action) (i : ℕ) (low : i 
   pub effects-kept : (beliefs : List Literal) → view (t .table) ≡ replay beliefs (changesOf t) → view (u .table) ≡ replay beliefs (changesOf u)
   effects-kept beliefs h =
       let now = effective (view (t .table)) (asChange env (getD actions i noAction)) in
-      e .table ∙ ap (λ (bs : List Literal). replay bs now) h ∙ sym (replay-joined beliefs (changesOf t) now) ∙ ap (replay beliefs) (sym (e .noted))
+      e .table ∙ ap (λ (bs : List Literal). replay bs now) h ∙ sym (replay-join beliefs (changesOf t) now) ∙ ap (replay beliefs) (sym (e .noted))
 
 -- past the last action
 pub effects-done : (beliefs : List Literal) (env : Env) (actions : List Action) (i : ℕ) → length actions ≤ i → effects beliefs env (drop i actions) ≡ []

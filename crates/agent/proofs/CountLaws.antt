@@ -1,5 +1,5 @@
 -- The counts of a state still fit after each of its changes.
-use Prim.Native.Nat.{ℕ, zero, suc, _+_, _-_, _<_, _≤_, min}
+use Prim.Native.Nat.{ℕ, suc, _+_, _-_, _<_, _≤_, min}
 use native.Mathlib.Omega.{arith}
 use mathlib.Core.Path.{_≡_, refl, ap, _∙_}
 use mathlib.Core.Bool.{Bool, true}
@@ -11,16 +11,16 @@ use borrow.Author.Tests.{le-leb, leb-true, ltb-true}
 use Rattle.lists.specs.Search.{all}
 use Rattle.lists.specs.Gap.{removeAt, closeGap}
 use Rattle.lists.proofs.BoolLaws.{by-cases, and-parts, and-both}
-use Rattle.lists.proofs.AllLaws.{all-at}
+use Rattle.lists.proofs.AllLaws.{all-at, all-set}
 use Rattle.lists.proofs.TestLaws.{all-joined, all-removed}
 use Rattle.lists.proofs.GapLaws.{gap-take, gap-last}
 use Rattle.belief.specs.declared.Beliefs.{Beliefs}
 use Rattle.belief.specs.Beliefs.{mostBeliefs}
 use Rattle.model.specs.declared.Event.{Event}
-use Rattle.model.specs.State.{mostStacks}
+use Rattle.model.specs.State.{mostStacks, mostQueued}
 use Rattle.state.specs.declared.Stack.{Stack}
 use Rattle.state.specs.declared.State.{State}
-use Rattle.state.specs.View.{mostQueued, mostBelow, queuedOf, stackedOf, countsFit}
+use Rattle.state.specs.View.{mostBelow, queuedOf, stackedOf, countsFit}
 use Rattle.state.specs.Queue.{withQueue, enqueue, dequeue, putEvent}
 use Rattle.state.specs.Stacks.{withStacks, openLast, putAt, dropAt, turnLast}
 use Rattle.agent.specs.Turnable.{withTable}
@@ -49,14 +49,6 @@ unfolding countsFit
 counts-whole s h =
     and-both (leb (s .beliefs .count) mostBeliefs) _ (le-leb _ _ (h .beliefs))
     (and-both (leb (s .queued) mostQueued) _ (le-leb _ _ (h .queued)) (and-both (leb (s .stacked) mostStacks) _ (le-leb _ _ (h .stacked)) (h .depths)))
-
-all-set : {A : Type 0} (test : A → Bool) (xs : List A) (i : ℕ) (x : A) → all test xs ≡ true → test x ≡ true → all test (set xs i x) ≡ true
-unfolding all
-all-set test [] i x h g = refl
-all-set test (y ∷ xs) zero x h g = and-both (test x) (all test xs) g (and-parts (test y) (all test xs) h .1)
-all-set test (y ∷ xs) (suc i) x h g =
-    let parts = and-parts (test y) (all test xs) h in
-    and-both (test y) (all test (set xs i x)) (parts .0) (all-set test xs i x (parts .1) g)
 
 one-shallow : (stack : Stack) → stack .depth ≤ 7 → all isShallow (stack ∷ []) ≡ true
 unfolding all

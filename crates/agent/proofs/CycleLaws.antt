@@ -22,12 +22,12 @@ use Rattle.model.specs.Try.{Try, missed, stepped, done, posted, attempt, tried}
 use Rattle.model.specs.End.{endTop, succeed, fail}
 use Rattle.model.specs.Turn.{Move, fails, succeeds, tries, nextMove, turnBy, turn, isRunning, heightOf}
 use Rattle.model.specs.Cycle.{nextEvent, nextStack, cycleBy, cycled}
+use Rattle.model.specs.Calls.{isRefusal}
 use Rattle.state.specs.declared.State.{State}
 use Rattle.state.specs.View.{noStack, viewStack, queuedOf, stackedOf, viewQueue, viewStacks, viewState, countsFit}
 use Rattle.state.proofs.ViewLaws.{length-queue, length-stacks, stack-at}
 use Rattle.agent.specs.declared.Acted.{Acted}
 use Rattle.agent.specs.View.{plainly}
-use Rattle.agent.specs.Kept.{isRefusal}
 use Rattle.agent.specs.TakeUp.{placedEvent, TakenUp}
 use Rattle.agent.specs.Turnable.{stackAt, placed, Replies}
 use Rattle.agent.specs.Cycle.{Cycled}

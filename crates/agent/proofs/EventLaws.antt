@@ -17,7 +17,7 @@ use Rattle.model.specs.declared.Instance.{Instance}
 use Rattle.model.specs.declared.Origin.{Origin}
 use Rattle.model.specs.declared.Origin.the-variants.{External, Goal}
 use Rattle.lists.specs.Places.{first, changeAt}
-use Rattle.model.specs.State.{Intention, AgentState, reply}
+use Rattle.model.specs.State.{Intention, AgentState, reply, requeued, restacked}
 use Rattle.model.specs.Live.{isPoster}
 use Rattle.model.specs.Event.{newInstance, opened, pushed, make, woken, close}
 use Rattle.state.specs.declared.Stack.{Stack}
@@ -32,7 +32,7 @@ use Rattle.agent.specs.TakeUp.{posterPlace, HasPoster, Follows}
 use Rattle.state.specs.View.{noStack}
 use Rattle.agent.proofs.PlaceLaws.{put-change}
 use Rattle.agent.proofs.CountLaws.{counts-dequeue, counts-open, counts-put}
-use Rattle.state.proofs.StateLaws.{queueing, stacking, dequeue-state, open-state, put-frame}
+use Rattle.state.proofs.StateLaws.{dequeue-state, open-state, put-frame}
 
 -- ---- An answer with no changes
 
@@ -92,7 +92,7 @@ module _ (s : State) (place : ℕ) (event : Event) (failures : ℕ) (next : Stat
       → Follows r (close (viewState s) (record { place = place; it = event }) (External external))
   unfolding close replay
   dropped external e p =
-      let v = queueing (viewState s) (removeAt place (viewQueue s)) in
+      let v = requeued (viewState s) (removeAt place (viewQueue s)) in
       subst (λ (n : ℕ). Follows r (reply (Dropped external n) [] v)) size
       (follow r next (Dropped external failures) v p (ap viewState e ∙ dequeue-state s place len) (ap countsFit e ∙ counts-dequeue s fits place))
 
@@ -108,10 +108,10 @@ module _ (s : State) (place : ℕ) (event : Event) (failures : ℕ) (next : Stat
       let there-is = put-there s poster (stackedOf s) refl stack low in
       let from : next ≡ dequeue w place = q ∙ ap (λ (z : State). dequeue z place) (e ∙ sym there-is) in
       let ks = changeAt woken (viewStacks s) (first test (viewStacks s)) in
-      let v = queueing (stacking (viewState s) ks) (removeAt place (viewQueue s)) in
+      let v = requeued (restacked (viewState s) ks) (removeAt place (viewQueue s)) in
       let view : viewState next ≡ v =
       ap viewState from ∙ dequeue-state w place len
-      ∙ ap (λ (stacks : List Intention). queueing (stacking (viewState s) stacks) (removeAt place (viewQueue s)))
+      ∙ ap (λ (stacks : List Intention). requeued (restacked (viewState s) stacks) (removeAt place (viewQueue s)))
       (ap viewStacks there-is ∙ put-change s poster noStack low test woken stack eight there top) in
       let f : countsFit next ≡ true = ap countsFit from ∙ counts-dequeue w (ap countsFit there-is ∙ counts-put s fits eight poster stack shallow) place in
       subst (λ (n : ℕ). Follows r (reply (Unmet i state branch n) [] v)) size

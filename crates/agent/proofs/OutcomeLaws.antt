@@ -15,7 +15,7 @@ use Rattle.model.specs.declared.Instance.{Instance}
 use Rattle.model.specs.State.{Intention, reply}
 use Rattle.belief.specs.Beliefs.{replay}
 use Rattle.model.specs.declared.Answer.the-variants.{Stepped, Missed, Refused}
-use Rattle.model.specs.Instance.{lastTried, branchesOf, branchOf, awake, pastAction}
+use Rattle.model.specs.Instance.{lastTried, branchesOf, branchOf, awake, pastBranch}
 use Rattle.model.specs.Outcome.{isAwaiting, inTurn, outcomeBy, told}
 use Rattle.lists.proofs.PlaceLaws.{first-at, first-none}
 use Rattle.state.specs.declared.Stack.{Stack}
@@ -62,7 +62,7 @@ module _ (library : Library) (s : State) (id place : ℕ) (e : place ≡ positio
     unfolding outcomeBy
     told-stepped =
         let x = getD (s .stacks) place d .top in
-        ap (reply (Stepped (x .id) (x .state) (lastTried x) (pastAction library x .state)) []) (put-top (pastAction library x)) ∙ sym (told-there true)
+        ap (reply (Stepped (x .id) (x .state) (lastTried x) (pastBranch library x .state)) []) (put-top (pastBranch library x)) ∙ sym (told-there true)
 
     pub told-missed : viewActed (missedOn s place (getD (s .stacks) place d)) ≡ told library (viewState s) id false
     unfolding outcomeBy
@@ -88,7 +88,7 @@ module _ (bytes : List ℕ) (s : State) (id : ℕ) (worked : Bool) (place : ℕ)
     told-worked w r p =
         subst⁻¹ (λ (b : Bool). Told bytes s id b r) w (subst⁻¹ (Told bytes s id true) p (record {
           means = told-stepped (libraryOf bytes) s id place e len there d;
-          kept = record { fit = top-fits (pastAction (libraryOf bytes) (getD (s .stacks) place d .top)); refused = λ x. both-ways {b = false} x refl };
+          kept = record { fit = top-fits (pastBranch (libraryOf bytes) (getD (s .stacks) place d .top)); refused = λ x. both-ways {b = false} x refl };
         }))
 
     pub told-failed : worked ≡ false → (r : Acted) → r ≡ missedOn s place (getD (s .stacks) place d) → Told bytes s id worked r

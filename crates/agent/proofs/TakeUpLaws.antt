@@ -21,11 +21,11 @@ use Rattle.lists.specs.Places.{Placed}
 use Rattle.model.specs.State.{AgentState, Reply}
 use Rattle.model.specs.Event.{make, close, takeUp}
 use Rattle.model.specs.Cycle.{choiceFor}
+use Rattle.model.specs.Calls.{isRefusal}
 use Rattle.state.specs.declared.State.{State}
 use Rattle.state.specs.View.{viewState, countsFit}
 use Rattle.agent.specs.declared.Acted.{Acted}
 use Rattle.agent.specs.View.{plainly}
-use Rattle.agent.specs.Kept.{isRefusal}
 use Rattle.agent.specs.TakeUp.{eventAt, Follows, TakenUp}
 use Rattle.agent.proofs.EventLaws.{follow}
 

@@ -24,7 +24,7 @@ use Rattle.model.specs.declared.Event.{Event}
 use Rattle.model.specs.declared.Instance.{Instance}
 use Rattle.model.specs.declared.Origin.{Origin}
 use Rattle.lists.specs.Places.{first, changeAt}
-use Rattle.model.specs.State.{Intention, AgentState, Reply, reply, after}
+use Rattle.model.specs.State.{Intention, AgentState, Reply, reply, requeued, after}
 use Rattle.model.specs.Instance.{planOf, branchesOf, branchOf, lastTried}
 use Rattle.model.specs.declared.Origin.the-variants.{External}
 use Rattle.model.specs.Live.{isOf, goalOf, eventOn}
@@ -41,7 +41,7 @@ use Rattle.state.proofs.StackLaws.{below-view, pop-view, drop-view, last-view}
 use Rattle.agent.specs.declared.Acted.{Acted}
 use Rattle.agent.specs.declared.changes.Altered.{Altered}
 use Rattle.agent.specs.Altered.{changesOf, Alters}
-use Rattle.agent.specs.Turnable.{placed, Standing, Replies, replied, ended, requeued, Requeues}
+use Rattle.agent.specs.Turnable.{placed, Standing, Replies, replied, ended, Requeues}
 use Rattle.lists.proofs.PlaceLaws.{first-none, first-at}
 use Rattle.agent.proofs.CountLaws.{counts-table, counts-enqueue, counts-dequeue, counts-put-event, counts-drop, counts-last}
 

@@ -7,16 +7,15 @@ use lib.ListN.{length, take}
 use lib.Dec.{leb}
 use Rattle.library.specs.Layout.{libraryOf}
 use Rattle.model.specs.declared.Answer.the-variants.{Refused}
-use Rattle.model.specs.State.{Call, Reply}
-use Rattle.model.specs.Calls.{callBy}
+use Rattle.model.specs.State.{Call, Reply, viewResult}
+use Rattle.model.specs.Calls.{callBy, isRefusal}
 use Rattle.state.specs.declared.State.{State}
 use Rattle.state.specs.View.{viewState, countsFit}
 use Rattle.formed.specs.Formed.{isFormed}
 use Rattle.agent.specs.declared.Acted.{Acted}
 use Rattle.agent.specs.declared.Agent.{Agent}
 use Rattle.agent.specs.declared.Replied.{Replied}
-use Rattle.agent.specs.View.{viewResult, viewActed, plainly}
-use Rattle.agent.specs.Kept.{isRefusal}
+use Rattle.agent.specs.View.{viewActed, plainly}
 use Rattle.agent.specs.Load.{bytesOf}
 
 -- ---- An agent
@@ -50,6 +49,7 @@ withState a acted = record { agent = record { library = a .library; length = a .
 
 -- the same for a library in the first bytes of an array, and a state
 pub record CallsOn (library : List ℕ) (size : ℕ) (s : State) (c : Call) (r : Acted) : Type 0 where
-  pub means : viewActed r ≡ callBy (leb size (length library) && isFormed (take size library) s) (libraryOf (take size library)) (viewState s) c
+  pub means : viewActed r
+      ≡ callBy (leb size (length library) && isFormed (take size library) s) (libraryOf (take size library)) (viewState s) c
   pub refused : isRefusal (r .result .answer) ≡ true → r .state ≡ s
   pub fit : (leb size (length library) && isFormed (take size library) s) ≡ true → countsFit (r .state) ≡ true

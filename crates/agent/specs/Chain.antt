@@ -1,12 +1,12 @@
 -- Chains of contracts: calls and answers in which each answer stands in the relation that its call's contract ensures
--- to the agent that the one before returned or left (the demands, 3). So what is said of a chain is said of the code, by its contracts alone.
+-- to the agent that the one before returned or left (the demands, 3).
+-- So what is said of a chain is said of the code, by its contracts alone.
 use mathlib.Core.List.{List, [], _∷_, map}
-use Rattle.model.specs.State.{Call}
+use Rattle.model.specs.State.{Call, viewResult}
 use Rattle.model.specs.Run.{Entry}
 use Rattle.state.specs.View.{viewState}
 use Rattle.agent.specs.declared.Agent.{Agent}
 use Rattle.agent.specs.declared.Replied.{Replied}
-use Rattle.agent.specs.View.{viewResult}
 use Rattle.agent.specs.Calls.{Calls}
 
 -- a call and what it gave
@@ -17,7 +17,8 @@ pub record Link : Type 0 where
 -- from an agent, by calls and answers, to the agent after them
 pub data Chain : Agent → List Link → Agent → Type 0 where
   start : {a : Agent} → Chain a [] a
-  then : {a b : Agent} {links : List Link} (link : Link) → Calls a (link .call) (link .given) → Chain (link .given .agent) links b → Chain a (link ∷ links) b
+  then : {a b : Agent} {links : List Link} (link : Link) → Calls a (link .call) (link .given) → Chain (link .given .agent) links b
+      → Chain a (link ∷ links) b
 
 -- what a call and its answer mean: the call, its result, and the state after it
 abbrev pub entryOf : Link → Entry

@@ -1,4 +1,5 @@
--- What load gives (document 01, "The agent holds its own copy of the library", "Who may cause which refusal"; dMARS 8.1, InitdMARSAgentState).
+-- What load gives (document 01, "The agent holds its own copy of the library", "Who may cause which refusal";
+-- dMARS 8.1, InitdMARSAgentState).
 use Prim.Native.Nat.{ℕ, _≤_}
 use mathlib.Core.Path.{_≡_}
 use mathlib.Core.Bool.{true}
@@ -6,7 +7,7 @@ use mathlib.Core.List.{List, []}
 use lib.ListN.{take}
 use Rattle.literal.specs.declared.Literal.{Literal}
 use Rattle.belief.specs.declared.Beliefs.{Beliefs}
-use Rattle.belief.specs.Beliefs.{view}
+use Rattle.belief.specs.Beliefs.{mostBeliefs, view}
 use Rattle.library.specs.Layout.{libraryOf}
 use Rattle.library.specs.Refusal.{refusalOf}
 use Rattle.model.specs.Calls.{loaded}
@@ -21,7 +22,7 @@ bytesOf a = take (a .length) (a .library)
 
 -- a table that holds these beliefs
 pub record Holds (beliefs : List Literal) (table : Beliefs) : Type 0 where
-  pub few : table .count ≤ 64
+  pub few : table .count ≤ mostBeliefs
   pub means : view table ≡ beliefs
 
 -- a state with these beliefs, and nothing else

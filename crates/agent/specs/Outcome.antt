@@ -8,7 +8,7 @@ use Rattle.lists.specs.Search.{position}
 use Rattle.library.specs.Layout.{planCount, libraryOf}
 use Rattle.library.specs.Plan.{Library}
 use Rattle.model.specs.declared.Answer.the-variants.{Stepped, Missed}
-use Rattle.model.specs.Instance.{lastTried, awake, pastAction}
+use Rattle.model.specs.Instance.{lastTried, awake, pastBranch}
 use Rattle.model.specs.Outcome.{isAwaiting, told}
 use Rattle.state.specs.declared.Stack.{Stack}
 use Rattle.state.specs.declared.State.{State}
@@ -22,7 +22,8 @@ use Rattle.agent.specs.Kept.{Kept}
 abbrev pub steppedOn : Library → State → ℕ → Stack → Acted
 steppedOn library s place stack =
     let x = stack .top in
-    plainly (putAt s place (replaceTop stack (pastAction library x))) (Stepped (x .id) (x .state) (lastTried x) (pastAction library x .state))
+    plainly (putAt s place (replaceTop stack (pastBranch library x)))
+    (Stepped (x .id) (x .state) (lastTried x) (pastBranch library x .state))
 
 -- the action did not work: the branch is missed
 abbrev pub missedOn : State → ℕ → Stack → Acted
@@ -33,7 +34,8 @@ missedOn s place stack =
 -- the counts fit, and the waiting instance's plan exists
 pub record Tells (bytes : List ℕ) (s : State) (id : ℕ) : Type 0 where
   pub fit : countsFit s ≡ true
-  pub plan : position (isAwaiting id) (viewStacks s) < stackedOf s → getD (s .stacks) (position (isAwaiting id) (viewStacks s)) noStack .top .plan < planCount bytes
+  pub plan : position (isAwaiting id) (viewStacks s) < stackedOf s
+      → getD (s .stacks) (position (isAwaiting id) (viewStacks s)) noStack .top .plan < planCount bytes
 
 -- the model's reply; a refusal leaves the state as it was, and the counts still fit
 pub record Told (bytes : List ℕ) (s : State) (id : ℕ) (worked : Bool) (r : Acted) : Type 0 where

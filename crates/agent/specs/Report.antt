@@ -5,6 +5,7 @@ use mathlib.Core.Bool.{true}
 use Rattle.literal.specs.declared.Literal.{Literal}
 use Rattle.belief.specs.declared.Beliefs.{Beliefs}
 use Rattle.model.specs.declared.Answer.the-variants.{Taken}
+use Rattle.model.specs.State.{mostNumber, mostQueued}
 use Rattle.model.specs.Report.{reportRefusal, reportChanges, takeIn, reported}
 use Rattle.state.specs.declared.State.{State}
 use Rattle.state.specs.View.{viewState, countsFit}
@@ -16,7 +17,15 @@ use Rattle.agent.specs.Kept.{Kept}
 -- a state with other beliefs and another number of events taken
 abbrev pub changedTo : State → Beliefs → ℕ → State
 changedTo s table taken =
-    record { beliefs = table; queue = s .queue; queued = s .queued; stacks = s .stacks; stacked = s .stacked; taken = taken; made = s .made }
+    record {
+      beliefs = table;
+      queue = s .queue;
+      queued = s .queued;
+      stacks = s .stacks;
+      stacked = s .stacked;
+      taken = taken;
+      made = s .made;
+    }
 
 -- the event was taken under a number, with these changes
 abbrev pub takenIn : State → Altered → ℕ → Acted
@@ -29,13 +38,13 @@ takenIn s altered number =
 -- the counts fit, and the queue has room for a report that is not refused
 pub record Hears (s : State) (kind : ℕ) (l : Literal) : Type 0 where
   pub fit : countsFit s ≡ true
-  pub room : reportRefusal (viewState s) kind l ≡ 0 → s .queued < 88
+  pub room : reportRefusal (viewState s) kind l ≡ 0 → s .queued < mostQueued
 
 -- the counts fit, a number is left and the queue has room
 pub record Reports (s : State) : Type 0 where
   pub fit : countsFit s ≡ true
-  pub number : s .taken < 65535
-  pub room : s .queued < 88
+  pub number : s .taken < mostNumber
+  pub room : s .queued < mostQueued
 
 -- the report is taken in
 pub record TakesIn (s : State) (kind : ℕ) (l : Literal) (r : Acted) : Type 0 where

@@ -13,13 +13,13 @@ use Rattle.library.specs.Layout.{planCount, libraryOf}
 use Rattle.library.specs.Refusal.{Accepted}
 use Rattle.model.specs.declared.Answer.{Answer}
 use Rattle.model.specs.declared.Event.{Event}
-use Rattle.model.specs.State.{Intention, AgentState, Reply, reply}
+use Rattle.model.specs.State.{mostQueued, Intention, AgentState, Reply, reply, requeued}
 use Rattle.lists.specs.Places.{Placed}
 use Rattle.model.specs.Try.{attempt, posted}
 use Rattle.model.specs.Turn.{Move, fails, succeeds, tries, nextMove, heightOf}
 use Rattle.state.specs.declared.Stack.{Stack}
 use Rattle.state.specs.declared.State.{State}
-use Rattle.state.specs.View.{mostQueued, mostBelow, noStack, depthOf, viewStack, stackedOf, viewState, countsFit}
+use Rattle.state.specs.View.{mostBelow, noStack, depthOf, viewStack, stackedOf, viewState, countsFit}
 use Rattle.state.specs.Stacks.{underTop}
 use Rattle.agent.specs.declared.Acted.{Acted}
 use Rattle.agent.specs.declared.changes.Altered.{Altered}
@@ -88,10 +88,6 @@ ended s place next answer altered =
       taken = s .taken;
       made = s .made;
     })
-
--- the model's state with another queue
-abbrev pub requeued : AgentState → List Event → AgentState
-requeued s queue = record { beliefs = s .beliefs; queue = queue; stacks = s .stacks; taken = s .taken; made = s .made }
 
 -- the state with another queue; the stacks keep their places
 pub record Requeues (s : State) (place : ℕ) (queue : List Event) (r : State) : Type 0 where

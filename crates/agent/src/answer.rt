@@ -2,29 +2,20 @@
 ghost use mathlib.Core.Path.{_≡_};
 ghost use Rattle.agent.specs.View.{plain, plainly};
 use crate::Acted;
-use belief::Change;
-use literal::Literal;
+use crate::changes;
 use model::Answer;
 use model::Answered;
+use model::MOST_CHANGES;
 use state::State;
 
 // An answer with no changes.
 pub fn plain_result(answer: Answer) -> Answered
     ensures { λ r. ⌜ r ≡ plain answer ⌝ }
 {
-    let nothing = Literal {
-        head: 0,
-        first: 0,
-        second: 0,
-        third: 0,
-    };
-    let no_change = Change {
-        removes: false,
-        literal: nothing,
-    };
+    let nothing = changes::no_change();
     Answered {
         answer: answer,
-        changes: [no_change; 4],
+        changes: [nothing; MOST_CHANGES],
         count: 0,
     }
 }

@@ -2,10 +2,12 @@
 ghost use mathlib.Core.Path.{_≡_};
 ghost use Prim.Native.Nat.{_<_, _≤_};
 ghost use lib.ListN.{length, getD};
-ghost use Rattle.belief.specs.Beliefs.{view};
+ghost use Rattle.belief.specs.Beliefs.{mostBeliefs, view};
 ghost use Rattle.library.specs.Layout.{planOf};
 ghost use Rattle.library.specs.Plan.{noAction};
+ghost use Rattle.model.specs.State.{mostChanges};
 ghost use Rattle.model.specs.Changes.{changeOf, effective, asChange, effects};
+ghost use Rattle.agent.specs.View.{noChange};
 ghost use Rattle.agent.specs.Altered.{untouched, Alters, Extends, Changed, listOf};
 use belief::Applied;
 use belief::Beliefs;
@@ -14,6 +16,7 @@ use library::Action;
 use library::plan;
 use literal::Env;
 use literal::Literal;
+use model::MOST_CHANGES;
 
 // A kind of change: 0 adds, 1 removes.
 const REMOVE: u16 = 1;
@@ -21,7 +24,7 @@ const REMOVE: u16 = 1;
 // A belief table after some changes, and those that took effect, the first `count` of the array.
 pub struct Altered {
     pub table: Beliefs,
-    pub changes: [Change; 4],
+    pub changes: [Change; MOST_CHANGES],
     pub count: usize,
 }
 
@@ -36,7 +39,7 @@ pub(crate) fn change_of(kind: u16, l: Literal) -> Change
 
 // The table after a change, whether it took effect and whether it was possible.
 pub(crate) fn with_change(b: Beliefs, c: Change) -> Applied
-    requires { ⌜ b .count ≤ 64 ⌝ }
+    requires { ⌜ b .count ≤ mostBeliefs ⌝ }
     ensures { λ r. ⌜ Changed b c r ⌝ }
 {
     let l = c.literal;
@@ -53,30 +56,32 @@ pub(crate) fn with_change(b: Beliefs, c: Change) -> Applied
     belief::added(b, l)
 }
 
+// What stands where no change is.
+pub(crate) fn no_change() -> Change
+    ensures { λ r. ⌜ r ≡ noChange ⌝ }
+{
+    let nothing = library::bytes::no_literal();
+    Change {
+        removes: false,
+        literal: nothing,
+    }
+}
+
 // No change yet.
 pub(crate) fn unaltered(b: Beliefs) -> Altered
     ensures { λ r. ⌜ r ≡ untouched b ⌝ }
 {
-    let nothing = Literal {
-        head: 0,
-        first: 0,
-        second: 0,
-        third: 0,
-    };
-    let no_change = Change {
-        removes: false,
-        literal: nothing,
-    };
+    let nothing = no_change();
     Altered {
         table: b,
-        changes: [no_change; 4],
+        changes: [nothing; MOST_CHANGES],
         count: 0,
     }
 }
 
 // The table after the change, which is noted if it took effect.
 pub(crate) fn noted(t: Altered, c: Change, applied: Applied) -> Altered
-    requires { ⌜ (t .count < 4) × Changed (t .table) c applied ⌝ }
+    requires { ⌜ (t .count < mostChanges) × Changed (t .table) c applied ⌝ }
     ensures { λ r. ⌜ Extends t (effective (view (t .table)) c) r ⌝ }
 {
     let table = applied.table;
@@ -92,7 +97,7 @@ pub(crate) fn noted(t: Altered, c: Change, applied: Applied) -> Altered
 
 // One action more.
 fn with_action(t: Altered, env: Env, action: Action) -> Altered
-    requires { ⌜ (t .count < 4) × (t .table .count ≤ 64) ⌝ }
+    requires { ⌜ (t .count < mostChanges) × (t .table .count ≤ mostBeliefs) ⌝ }
     ensures { λ r. ⌜ Extends t (effective (view (t .table)) (asChange env action)) r ⌝ }
 {
     let l = action.literal;
@@ -123,7 +128,7 @@ fn list_action(library: &[u8], plan: usize, succeeds: bool, place: usize) -> Act
 
 // A plan's success or failure list runs, under an environment.
 pub(crate) fn list_run(library: &[u8], plan: usize, succeeds: bool, env: Env, b: Beliefs) -> Altered
-    requires { ⌜ (length (listOf succeeds (planOf (now library) plan)) ≤ 4) × (b .count ≤ 64) ⌝ }
+    requires { ⌜ (length (listOf succeeds (planOf (now library) plan)) ≤ mostChanges) × (b .count ≤ mostBeliefs) ⌝ }
     ensures { λ r. ⌜ Alters b (effects (view b) env (listOf succeeds (planOf (now (library .entry)) plan))) r ⌝ }
 {
     let n = list_count(library, plan, succeeds) as usize;

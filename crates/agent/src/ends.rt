@@ -3,16 +3,16 @@ ghost use mathlib.Core.Path.{_≡_};
 ghost use mathlib.Core.Bool.{true};
 ghost use mathlib.Core.List.{[], _∷_};
 ghost use Prim.Native.Nat.{_<_, _≤_};
+ghost use Rattle.belief.specs.Beliefs.{mostBeliefs};
 ghost use Rattle.library.specs.Layout.{planCount, libraryOf};
-ghost use Rattle.model.specs.Instance.{stepTo, pastGoal};
+ghost use Rattle.model.specs.Instance.{stepTo, pastBranch};
 ghost use Rattle.model.specs.End.{servedBy, closeEvent, markEvent, popped, succeed, fail};
-ghost use Rattle.state.specs.View.{depthOf, viewStack, viewState, viewQueue};
+ghost use Rattle.state.specs.View.{mostBelow, depthOf, viewStack, viewState, viewQueue};
 ghost use Rattle.state.specs.Stacks.{underTop};
 ghost use Rattle.agent.specs.Turnable.{placed, Standing, Turnable, Replies, replied, ended, Requeues};
 use crate::Acted;
 use crate::changes;
 use crate::changes::Altered;
-use belief::Beliefs;
 use library::plan;
 use literal::Env;
 use model::Answer;
@@ -58,7 +58,7 @@ pub(crate) fn turned(
     answer: Answer,
     altered: Altered,
 ) -> Acted
-    requires { ⌜ Standing s place × ((stack .depth ≤ 7) × (altered .table .count ≤ 64)) ⌝ }
+    requires { ⌜ Standing s place × ((stack .depth ≤ mostBelow) × (altered .table .count ≤ mostBeliefs)) ⌝ }
     ensures { λ r. ⌜ Replies (ended (viewState s) place (viewStack stack ∷ []) answer altered) r ⌝ }
 {
     let next = stacks::with_stack_last(s, place, stack);
@@ -67,7 +67,7 @@ pub(crate) fn turned(
 
 // The stack at the place goes.
 fn emptied(s: State, place: usize, answer: Answer, altered: Altered) -> Acted
-    requires { ⌜ Standing s place × (altered .table .count ≤ 64) ⌝ }
+    requires { ⌜ Standing s place × (altered .table .count ≤ mostBeliefs) ⌝ }
     ensures { λ r. ⌜ Replies (ended (viewState s) place [] answer altered) r ⌝ }
 {
     let next = stacks::without_stack(s, place);
@@ -129,7 +129,7 @@ pub(crate) fn stepped_to(x: Instance, next: u16, env: Env) -> Instance
 // A poster steps past its goal.
 fn past_goal(library: &[u8], x: Instance) -> Instance
     requires { ⌜ x .plan < planCount (now library) ⌝ }
-    ensures { λ r. ⌜ r ≡ pastGoal (libraryOf (now (library .entry))) x ⌝ }
+    ensures { λ r. ⌜ r ≡ pastBranch (libraryOf (now (library .entry))) x ⌝ }
 {
     let last = origin::last_tried(x) as usize;
     let branch = plan::branch(library, x.plan as usize, x.state as usize, last);
@@ -139,7 +139,7 @@ fn past_goal(library: &[u8], x: Instance) -> Instance
 
 // The top goes, and the stack with it where it was alone; a poster below stays as it is.
 fn lowered(s: State, place: usize, stack: Stack, answer: Answer, altered: Altered) -> Acted
-    requires { ⌜ Standing s place × (altered .table .count ≤ 64) ⌝ }
+    requires { ⌜ Standing s place × (altered .table .count ≤ mostBeliefs) ⌝ }
     ensures { λ r. ⌜ Replies
         (ended (viewState s) place (popped (stack .external) (λ below. below) (viewStack stack .below)) answer altered) r ⌝ }
 {
@@ -160,10 +160,10 @@ fn raised(
     answer: Answer,
     altered: Altered,
 ) -> Acted
-    requires { ⌜ Standing s place × ((altered .table .count ≤ 64)
+    requires { ⌜ Standing s place × ((altered .table .count ≤ mostBeliefs)
         × (0 < depthOf stack → underTop stack .plan < planCount (now library))) ⌝ }
     ensures { λ r. ⌜ Replies (ended (viewState s) place
-        (popped (stack .external) (pastGoal (libraryOf (now (library .entry)))) (viewStack stack .below)) answer altered) r ⌝ }
+        (popped (stack .external) (pastBranch (libraryOf (now (library .entry)))) (viewStack stack .below)) answer altered) r ⌝ }
 {
     if stacks::depth_of(stack) < 1 {
         return emptied(s, place, answer, altered);

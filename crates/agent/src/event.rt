@@ -13,6 +13,7 @@ use literal::Env;
 use model::Answer;
 use model::Event;
 use model::Instance;
+use model::MOST_NUMBER;
 use model::Number;
 use model::Origin;
 use model::Status;
@@ -25,8 +26,6 @@ use state::queue;
 use state::search;
 use state::stacks;
 
-// The largest number of an instance.
-const MOST_NUMBER: Number = 65_535;
 // No instance number is left.
 const NO_NUMBER_LEFT: u16 = 9;
 

@@ -2,26 +2,30 @@
 ghost use mathlib.Core.Path.{_≡_};
 ghost use Prim.Native.Nat.{_≤_};
 ghost use lib.ListN.{length, take};
+ghost use Rattle.belief.specs.Beliefs.{mostBeliefs};
 ghost use Rattle.library.specs.Layout.{beliefsOf};
 ghost use Rattle.agent.specs.Load.{Starts, Refuses, Loads, Holds};
 use crate::Agent;
 use crate::Loaded;
 use crate::MOST_BYTES;
 use belief::Beliefs;
-use literal::Literal;
+use belief::MOST_BELIEFS;
 use model::Event;
 use model::Instance;
 use model::Origin;
 use model::Status;
+use state::MOST_BELOW;
+use state::MOST_QUEUED;
+use state::MOST_STACKS;
 use state::Stack;
 use state::State;
 
 // The bytes at the beginning of an array, zeros after them.
-fn copied(library: &[u8]) -> [u8; 19332]
+fn copied(library: &[u8]) -> [u8; MOST_BYTES]
     requires { ⌜ length (now library) ≤ 19332 ⌝ }
     ensures { λ r. ⌜ take (length (now (library .entry))) r ≡ now (library .entry) ⌝ }
 {
-    let mut copy = [0u8; 19332];
+    let mut copy = [0u8; MOST_BYTES];
     let mut i: usize = 0;
     while i < library.len() {
         copy[i] = library[i];
@@ -30,30 +34,20 @@ fn copied(library: &[u8]) -> [u8; 19332]
     copy
 }
 
-// What stands where no literal is.
-fn no_literal() -> Literal {
-    Literal {
-        head: 0,
-        first: 0,
-        second: 0,
-        third: 0,
-    }
-}
-
 // A table without beliefs.
 fn no_beliefs() -> Beliefs
     ensures { λ r. ⌜ r .count ≡ 0 ⌝ }
 {
-    let nothing = no_literal();
+    let nothing = library::bytes::no_literal();
     Beliefs {
-        items: [nothing; 64],
+        items: [nothing; MOST_BELIEFS],
         count: 0,
     }
 }
 
 // The initial beliefs of a library.
 fn initial_beliefs(library: &[u8]) -> Beliefs
-    requires { ⌜ length (beliefsOf (now library)) ≤ 64 ⌝ }
+    requires { ⌜ length (beliefsOf (now library)) ≤ mostBeliefs ⌝ }
     ensures { λ r. ⌜ Holds (beliefsOf (now (library .entry))) r ⌝ }
 {
     let mut table = no_beliefs();
@@ -72,7 +66,7 @@ fn initial_beliefs(library: &[u8]) -> Beliefs
 fn first_state(beliefs: Beliefs) -> State
     ensures { λ r. ⌜ Starts beliefs r ⌝ }
 {
-    let nothing = no_literal();
+    let nothing = library::bytes::no_literal();
     let event = Event {
         origin: Origin::External(0),
         kind: 0,
@@ -90,15 +84,15 @@ fn first_state(beliefs: Beliefs) -> State
     };
     let stack = Stack {
         top: nobody,
-        below: [nobody; 7],
+        below: [nobody; MOST_BELOW],
         depth: 0,
         external: 0,
     };
     State {
         beliefs: beliefs,
-        queue: [event; 88],
+        queue: [event; MOST_QUEUED],
         queued: 0,
-        stacks: [stack; 8],
+        stacks: [stack; MOST_STACKS],
         stacked: 0,
         taken: 0,
         made: 0,
@@ -110,7 +104,7 @@ fn no_agent(state: State) -> Agent
     ensures { λ r. ⌜ (r .length ≡ 0) × (r .state ≡ state) ⌝ }
 {
     Agent {
-        library: [0u8; 19332],
+        library: [0u8; MOST_BYTES],
         length: 0,
         state: state,
     }

@@ -2,7 +2,7 @@
 ghost use mathlib.Core.Path.{_≡_};
 ghost use Prim.Native.Nat.{_<_};
 ghost use Rattle.library.specs.Layout.{planCount, libraryOf};
-ghost use Rattle.model.specs.Instance.{awake, pastAction};
+ghost use Rattle.model.specs.Instance.{awake, pastBranch};
 ghost use Rattle.state.specs.Stacks.{replaceTop, putAt};
 ghost use Rattle.agent.specs.Outcome.{steppedOn, missedOn, Tells, Told};
 use crate::Acted;
@@ -33,7 +33,7 @@ pub(crate) fn awoken(x: Instance) -> Instance
 // The instance past the action that it waited for.
 fn past_action(library: &[u8], x: Instance) -> Instance
     requires { ⌜ x .plan < planCount (now library) ⌝ }
-    ensures { λ r. ⌜ r ≡ pastAction (libraryOf (now (library .entry))) x ⌝ }
+    ensures { λ r. ⌜ r ≡ pastBranch (libraryOf (now (library .entry))) x ⌝ }
 {
     let last = origin::last_tried(x);
     let branch = library::plan::branch(library, x.plan as usize, x.state as usize, last as usize);

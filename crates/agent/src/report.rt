@@ -1,8 +1,8 @@
 // Report: a belief change, and an external event at the queue's end.
 ghost use mathlib.Core.Path.{_≡_};
-ghost use Prim.Native.Nat.{_<_, _≤_};
+ghost use Prim.Native.Nat.{_≤_};
 ghost use Rattle.lists.specs.Counts.{count};
-ghost use Rattle.belief.specs.Beliefs.{view};
+ghost use Rattle.belief.specs.Beliefs.{mostBeliefs, view};
 ghost use Rattle.model.specs.Live.{isExternal};
 ghost use Rattle.model.specs.Report.{isReportable, isOverfull, reportRefusal, reportChanges, newEvent};
 ghost use Rattle.state.specs.View.{viewQueue, viewState};
@@ -13,22 +13,18 @@ use crate::answer;
 use crate::changes;
 use crate::changes::Altered;
 use belief::Beliefs;
+use belief::MOST_BELIEFS;
 use literal::Literal;
 use model::Answer;
 use model::Answered;
 use model::Event;
+use model::MOST_EXTERNAL;
+use model::MOST_NUMBER;
 use model::Origin;
+use model::TOLD;
 use state::State;
 use state::origin;
 use state::queue;
-
-const TOLD: u16 = 2;
-
-const MOST_BELIEFS: usize = 64;
-
-const MOST_EXTERNAL: usize = 32;
-
-const MOST_NUMBER: u16 = 65535;
 
 // Refusals of a report, in the order of the tests.
 const MALFORMED: u16 = 5;
@@ -68,7 +64,7 @@ fn is_reportable(kind: u16, l: Literal) -> bool
 
 // Whether an add of the literal finds a full table.
 fn is_overfull(b: Beliefs, kind: u16, l: Literal) -> bool
-    requires { ⌜ b .count ≤ 64 ⌝ }
+    requires { ⌜ b .count ≤ mostBeliefs ⌝ }
     ensures { λ r. ⌜ r ≡ isOverfull (view b) kind l ⌝ }
 {
     if kind != 0 {
@@ -82,7 +78,7 @@ fn is_overfull(b: Beliefs, kind: u16, l: Literal) -> bool
 
 // The refusal's number, 0 where there is none.
 fn refusal_of(s: State, kind: u16, l: Literal) -> u16
-    requires { ⌜ s .beliefs .count ≤ 64 ⌝ }
+    requires { ⌜ s .beliefs .count ≤ mostBeliefs ⌝ }
     ensures { λ r. ⌜ r ≡ reportRefusal (viewState s) kind l ⌝ }
 {
     if !is_reportable(kind, l) {
@@ -103,7 +99,7 @@ fn refusal_of(s: State, kind: u16, l: Literal) -> u16
 
 // What the report does to the beliefs.
 fn believed(b: Beliefs, kind: u16, l: Literal) -> Altered
-    requires { ⌜ b .count ≤ 64 ⌝ }
+    requires { ⌜ b .count ≤ mostBeliefs ⌝ }
     ensures { λ r. ⌜ Alters b (reportChanges (view b) kind l) r ⌝ }
 {
     let t = changes::unaltered(b);

@@ -5,7 +5,7 @@ ghost use mathlib.Core.Option.{none};
 ghost use Prim.Native.Nat.{_≤_};
 ghost use Rattle.literal.specs.Environment.{instantiate};
 ghost use Rattle.literal.specs.Match.{answer};
-ghost use Rattle.belief.specs.Beliefs.{view};
+ghost use Rattle.belief.specs.Beliefs.{mostBeliefs, view};
 ghost use Rattle.model.specs.Try.{tryChange, tryAction, answerTo, isBarred, pursue, attempt};
 ghost use Rattle.agent.specs.Trial.{viewOutcome, Tries};
 use crate::changes;
@@ -16,11 +16,8 @@ use library::Branch;
 use literal::Env;
 use literal::Literal;
 use literal::Match;
-
-// Kinds of branches: below this one they change a belief, above it they pursue a goal.
-const ACTION: u16 = 2;
-
-const ACHIEVE: u16 = 3;
+use model::ACHIEVE;
+use model::ACTION;
 
 // A stack has at most this many instances.
 const MOST_HEIGHT: usize = 8;
@@ -42,7 +39,7 @@ pub struct Trial {
 
 // A trial that changes no belief.
 fn plain_trial(b: Beliefs, env: Env, outcome: Outcome) -> Trial
-    requires { ⌜ b .count ≤ 64 ⌝ }
+    requires { ⌜ b .count ≤ mostBeliefs ⌝ }
     ensures { λ r. ⌜ Tries b (viewOutcome outcome env []) r ⌝ }
 {
     let altered = changes::unaltered(b);
@@ -55,7 +52,7 @@ fn plain_trial(b: Beliefs, env: Env, outcome: Outcome) -> Trial
 
 // An add or a removal: a step, if it is possible.
 fn try_change(b: Beliefs, env: Env, c: Change) -> Trial
-    requires { ⌜ b .count ≤ 64 ⌝ }
+    requires { ⌜ b .count ≤ mostBeliefs ⌝ }
     ensures { λ r. ⌜ Tries b (tryChange (view b) env c) r ⌝ }
 {
     let applied = changes::with_change(b, c);
@@ -75,7 +72,7 @@ fn try_change(b: Beliefs, env: Env, c: Change) -> Trial
 
 // An external action, if it is ground.
 fn try_action(b: Beliefs, env: Env, l: Literal) -> Trial
-    requires { ⌜ b .count ≤ 64 ⌝ }
+    requires { ⌜ b .count ≤ mostBeliefs ⌝ }
     ensures { λ r. ⌜ Tries b (tryAction l) r ⌝ }
 {
     if !literal::is_ground(l) {
@@ -126,7 +123,7 @@ fn is_barred(kind: u16, b: Beliefs, height: usize, goal: Literal) -> bool
 
 // A goal that the beliefs do not answer: posted, unless it is barred.
 fn try_post(b: Beliefs, height: usize, env: Env, kind: u16, goal: Literal) -> Trial
-    requires { ⌜ b .count ≤ 64 ⌝ }
+    requires { ⌜ b .count ≤ mostBeliefs ⌝ }
     ensures { λ r. ⌜ Tries b (pursue none (isBarred kind (view b) height goal) goal) r ⌝ }
 {
     if is_barred(kind, b, height, goal) {
@@ -139,7 +136,7 @@ fn try_post(b: Beliefs, height: usize, env: Env, kind: u16, goal: Literal) -> Tr
 
 // Achieve or query: ask the beliefs, then post.
 fn try_goal(b: Beliefs, height: usize, env: Env, kind: u16, l: Literal) -> Trial
-    requires { ⌜ b .count ≤ 64 ⌝ }
+    requires { ⌜ b .count ≤ mostBeliefs ⌝ }
     ensures { λ r. ⌜ Tries b (pursue (answerTo kind (view b) env l)
         (isBarred kind (view b) height (instantiate env l)) (instantiate env l)) r ⌝ }
 {
@@ -155,7 +152,7 @@ fn try_goal(b: Beliefs, height: usize, env: Env, kind: u16, l: Literal) -> Trial
 
 // A branch by its kind, from the beliefs, the stack's height and the environment.
 pub(crate) fn attempt(b: Beliefs, height: usize, env: Env, branch: Branch) -> Trial
-    requires { ⌜ b .count ≤ 64 ⌝ }
+    requires { ⌜ b .count ≤ mostBeliefs ⌝ }
     ensures { λ r. ⌜ Tries b (attempt (view b) height env branch) r ⌝ }
 {
     let kind = branch.kind;

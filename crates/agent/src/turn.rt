@@ -4,10 +4,11 @@ ghost use mathlib.Core.List.{[]};
 ghost use Prim.Native.Nat.{_+_, _<_, _≤_};
 ghost use Rattle.belief.specs.Beliefs.{view};
 ghost use Rattle.library.specs.Layout.{planCount, libraryOf};
+ghost use Rattle.model.specs.State.{mostQueued};
 ghost use Rattle.model.specs.Instance.{tryNext};
 ghost use Rattle.model.specs.Try.{missed, stepped, done, posted, attempt, tried};
 ghost use Rattle.model.specs.Turn.{nextMove, heightOf, turn};
-ghost use Rattle.state.specs.View.{viewStack, viewState};
+ghost use Rattle.state.specs.View.{mostBelow, viewStack, viewState};
 ghost use Rattle.agent.specs.Altered.{changesOf, Alters};
 ghost use Rattle.agent.specs.Trial.{viewTrial, changesBy};
 ghost use Rattle.agent.specs.Turnable.{stackAt, placed, Standing, Turnable, Replies, viewDecision};
@@ -56,7 +57,7 @@ fn with_try(x: Instance, status: Status) -> Instance
 
 // The branch missed: the instance stays active.
 fn on_missed(s: State, place: usize, stack: Stack, branch: Branch, altered: Altered) -> Acted
-    requires { ⌜ Standing s place × ((stack .depth ≤ 7) × ((stack .top .tried ≤ 4) × Alters (s .beliefs) [] altered)) ⌝ }
+    requires { ⌜ Standing s place × ((stack .depth ≤ mostBelow) × ((stack .top .tried ≤ 4) × Alters (s .beliefs) [] altered)) ⌝ }
     ensures { λ r. ⌜ Replies (tried (viewState s) (placed place stack) branch missed) r ⌝ }
 {
     let x = stack.top;
@@ -80,7 +81,7 @@ fn on_stepped(
     env: Env,
     altered: Altered,
 ) -> Acted
-    requires { ⌜ Standing s place × ((stack .depth ≤ 7) × Alters (s .beliefs) (changesOf altered) altered) ⌝ }
+    requires { ⌜ Standing s place × ((stack .depth ≤ mostBelow) × Alters (s .beliefs) (changesOf altered) altered) ⌝ }
     ensures { λ r. ⌜ Replies (tried (viewState s) (placed place stack) branch (stepped env (changesOf altered))) r ⌝ }
 {
     let x = stack.top;
@@ -104,7 +105,7 @@ fn on_done(
     l: Literal,
     altered: Altered,
 ) -> Acted
-    requires { ⌜ Standing s place × ((stack .depth ≤ 7) × ((stack .top .tried ≤ 4) × Alters (s .beliefs) [] altered)) ⌝ }
+    requires { ⌜ Standing s place × ((stack .depth ≤ mostBelow) × ((stack .top .tried ≤ 4) × Alters (s .beliefs) [] altered)) ⌝ }
     ensures { λ r. ⌜ Replies (tried (viewState s) (placed place stack) branch (done l)) r ⌝ }
 {
     let x = stack.top;
@@ -129,8 +130,8 @@ fn on_posted(
     goal: Literal,
     altered: Altered,
 ) -> Acted
-    requires { ⌜ Standing s place × ((stack .depth ≤ 7) × ((stack .top .tried ≤ 4)
-        × (Alters (s .beliefs) [] altered × (s .queued < 88)))) ⌝ }
+    requires { ⌜ Standing s place × ((stack .depth ≤ mostBelow) × ((stack .top .tried ≤ 4)
+        × (Alters (s .beliefs) [] altered × (s .queued < mostQueued)))) ⌝ }
     ensures { λ r. ⌜ Replies (tried (viewState s) (placed place stack) branch (posted goal)) r ⌝ }
 {
     let x = stack.top;
@@ -159,9 +160,9 @@ fn on_posted(
 
 // What the trial of a branch does to the state.
 fn on_trial(s: State, place: usize, stack: Stack, branch: Branch, trial: Trial) -> Acted
-    requires { ⌜ Standing s place × ((stack .depth ≤ 7) × ((stack .top .tried ≤ 4)
+    requires { ⌜ Standing s place × ((stack .depth ≤ mostBelow) × ((stack .top .tried ≤ 4)
         × (Alters (s .beliefs) (changesBy (viewTrial trial)) (trial .altered)
-        × ((goal : Literal) → viewTrial trial ≡ posted goal → s .queued < 88)))) ⌝ }
+        × ((goal : Literal) → viewTrial trial ≡ posted goal → s .queued < mostQueued)))) ⌝ }
     ensures { λ r. ⌜ Replies (tried (viewState s) (placed place stack) branch (viewTrial trial)) r ⌝ }
 {
     let altered = trial.altered;
@@ -179,9 +180,9 @@ fn on_trial(s: State, place: usize, stack: Stack, branch: Branch, trial: Trial) 
 
 // The next branch of the top of a stack.
 fn try_branch(s: State, place: usize, stack: Stack, branch: Branch) -> Acted
-    requires { ⌜ Standing s place × ((stack .depth ≤ 7) × ((stack .top .tried ≤ 4)
+    requires { ⌜ Standing s place × ((stack .depth ≤ mostBelow) × ((stack .top .tried ≤ 4)
         × ((goal : Literal) → attempt (view (s .beliefs)) (heightOf (viewStack stack)) (stack .top .env) branch ≡ posted goal
-        → s .queued < 88))) ⌝ }
+        → s .queued < mostQueued))) ⌝ }
     ensures { λ r. ⌜ Replies (tried (viewState s) (placed place stack) branch
         (attempt (view (s .beliefs)) (heightOf (viewStack stack)) (stack .top .env) branch)) r ⌝ }
 {

@@ -3,7 +3,7 @@ use Prim.Native.Nat.{ℕ, suc, _+_, _-_, _<_, _≤_, min}
 use native.Mathlib.Omega.{arith}
 use mathlib.Core.Path.{_≡_, refl, ap, sym, _∙_}
 use mathlib.Core.Bool.{Bool, true, false, cond, not, _&&_}
-use mathlib.Core.List.{List, [], _∷_, _++_}
+use mathlib.Core.List.{List, [], _∷_, _++_, foldl-append}
 use lib.ListN.{length, take, drop, length-append, length-take, length-drop}
 use lib.Seq.{take-suc-set}
 use lib.Dec.{leb, ltb}
@@ -18,7 +18,8 @@ use Rattle.literal.specs.declared.Literal.{Literal}
 use Rattle.literal.specs.Literal.{isGround, same, opposite}
 use Rattle.literal.proofs.LiteralLaws.{same-either-way, opposite-differs, opposite-ground}
 use Rattle.belief.specs.declared.Beliefs.{Beliefs}
-use Rattle.belief.specs.Beliefs.{mostBeliefs, size, view, holds, areSound, areBeliefs, plus, minus}
+use Rattle.belief.specs.declared.Change.{Change}
+use Rattle.belief.specs.Beliefs.{mostBeliefs, size, view, holds, areSound, areBeliefs, plus, minus, change, replay}
 use Rattle.belief.specs.Table.{addBy, add, removeBy, remove, isTable}
 use Rattle.belief.proofs.TableSteps.{length-view}
 
@@ -60,6 +61,11 @@ minus-beliefs beliefs l h =
   where
     shorter : (i : ℕ) → length (removeAt i beliefs) ≤ length beliefs
     shorter i = omega (arith, length-append (take i beliefs) (drop (suc i) beliefs), length-take i beliefs, length-drop (suc i) beliefs)
+
+-- changes one after the other
+pub replay-join : (beliefs : List Literal) (now later : List Change) → replay beliefs (now ++ later) ≡ replay (replay beliefs now) later
+unfolding replay
+replay-join beliefs now later = foldl-append change beliefs now later
 
 -- a literal and its opposite may both stand
 pub both-stand : (l : Literal) → isGround l ≡ true → areBeliefs (l ∷ opposite l ∷ []) ≡ true

@@ -11,11 +11,11 @@ ghost use Rattle.belief.specs.Table.{add, remove, isTable};
 use literal::Literal;
 
 // At most this many beliefs.
-const MOST_BELIEFS: usize = 64;
+pub const MOST_BELIEFS: usize = 64;
 
 // The beliefs are the first `count` items, oldest first; the other places are no part of the table.
 pub struct Beliefs {
-    pub items: [Literal; 64],
+    pub items: [Literal; MOST_BELIEFS],
     pub count: usize,
 }
 
@@ -43,7 +43,7 @@ pub fn size_of(b: Beliefs) -> usize
 }
 
 // The first place of the literal among the first n items from `from` on; n where there is none.
-fn place_from(items: [Literal; 64], n: usize, from: usize, l: Literal) -> usize
+fn place_from(items: [Literal; MOST_BELIEFS], n: usize, from: usize, l: Literal) -> usize
     requires { ⌜ (from ≤ n) × (n ≤ 64) ⌝ }
     ensures { λ r. ⌜ r ≡ from + position (same l) (drop from (take n items)) ⌝ }
 {
@@ -59,7 +59,7 @@ fn place_from(items: [Literal; 64], n: usize, from: usize, l: Literal) -> usize
 }
 
 // The items from the gap on move down by one, up to the last of n.
-fn without_gap(items: [Literal; 64], gap: usize, n: usize) -> [Literal; 64]
+fn without_gap(items: [Literal; MOST_BELIEFS], gap: usize, n: usize) -> [Literal; MOST_BELIEFS]
     requires { ⌜ (gap < n) × (n ≤ 64) ⌝ }
     ensures { λ r. ⌜ r ≡ closeGap gap (n - 1) items ⌝ }
 {
@@ -138,7 +138,7 @@ pub fn removed(b: Beliefs, l: Literal) -> Applied
 }
 
 // Whether the first n items are ground and all different.
-fn are_beliefs(items: [Literal; 64], n: usize) -> bool
+fn are_beliefs(items: [Literal; MOST_BELIEFS], n: usize) -> bool
     requires { ⌜ n ≤ 64 ⌝ }
     ensures { λ r. ⌜ r ≡ (all isGround (take n items) && distinct same (take n items)) ⌝ }
 {

@@ -1,20 +1,13 @@
--- The steps of the loops that count events, go down a stack or over an environment, and what a test of the live instances says of their array.
+-- The steps of the loops that count events, or go down a stack, and what a test of the live instances says of their array.
 use Prim.Native.Nat.{ℕ, zero, suc, _+_, _-_, _<_, _≤_, min}
 use native.Mathlib.Nat.{zero-add}
-use native.Mathlib.Numerals.{add-one}
 use native.Mathlib.Omega.{arith}
-use mathlib.Core.Path.{_≡_, refl, ap, sym, _∙_}
-use mathlib.Core.Bool.{Bool, true, false, _&&_, _||_}
-use mathlib.Core.List.{List, _∷_}
-use lib.Dec.{eqb}
+use mathlib.Core.Path.{_≡_, refl, ap, _∙_}
+use mathlib.Core.Bool.{Bool, true, false}
+use mathlib.Core.List.{List}
 use lib.ListN.{length, take, drop, getD, length-take, drop-of-length-le}
-use lib.Seq.{drop-cons}
-use borrow.Author.Tests.{eq-eqb}
 use Rattle.lists.specs.Search.{any, all, distinct}
 use Rattle.lists.proofs.LoopLaws.{element-at, all-mapped, any-mapped, distinct-mapped}
-use Rattle.literal.specs.declared.Env.{Env}
-use Rattle.literal.specs.Literal.{isConstant}
-use Rattle.literal.specs.Environment.{areEntries, isEnv}
 use Rattle.model.specs.declared.Instance.{Instance}
 use Rattle.lists.specs.Counts.{bit, count}
 use Rattle.model.specs.Live.{Job}
@@ -68,38 +61,6 @@ module _ (test : Instance → Bool) (xs : List Instance) where
   unfolding all down
   down-end zero h = refl
   down-end (suc depth) h = absurd (omega arith)
-
--- ---- Over an environment
-
--- the entries from i on decide as all of them do
-abbrev pub EntriesLeft : List ℕ → ℕ → Type 0
-EntriesLeft terms i = areEntries (65528 + i) (drop i terms) ≡ areEntries 65528 terms
-
-entry-cons : (variable term : ℕ) (terms : List ℕ) (b : Bool) → (isConstant term || eqb term variable) ≡ b
-    → areEntries variable (term ∷ terms) ≡ (b && areEntries (suc variable) terms)
-unfolding areEntries
-entry-cons variable term terms b e = rw e
-
-module _ (terms : List ℕ) (i : ℕ) (low : i < length terms) (inv : EntriesLeft terms i) where
-  from-here : (b : Bool) → (isConstant (getD terms i 0) || eqb (getD terms i 0) (65528 + i)) ≡ b
-      → areEntries (65528 + i) (drop i terms) ≡ (b && areEntries (suc (65528 + i)) (drop (suc i) terms))
-  from-here b e = ap (areEntries (65528 + i)) (drop-cons terms i 0 low) ∙ entry-cons (65528 + i) (getD terms i 0) (drop (suc i) terms) b e
-
-  pub entries-next : (isConstant (getD terms i 0) || eqb (getD terms i 0) (65528 + i)) ≡ true → EntriesLeft terms (i + 1)
-  entries-next e =
-      let next : 65528 + (i + 1) ≡ suc (65528 + i) = omega arith in
-      rw (next, add-one i) (sym (from-here true e) ∙ inv)
-
-  pub entries-stop : (isConstant (getD terms i 0) || eqb (getD terms i 0) (65528 + i)) ≡ false → areEntries 65528 terms ≡ false
-  entries-stop e = sym inv ∙ from-here false e
-
-pub entries-end : (terms : List ℕ) (i : ℕ) → length terms ≤ i → EntriesLeft terms i → areEntries 65528 terms ≡ true
-unfolding areEntries
-entries-end terms i h inv = sym inv ∙ ap (areEntries (65528 + i)) (drop-of-length-le terms h)
-
-pub env-by-entries : (env : Env) → length (env .terms) ≡ 8 → areEntries 65528 (env .terms) ≡ isEnv env
-unfolding isEnv
-env-by-entries env len = rw (eq-eqb (length (env .terms)) 8 len)
 
 -- ---- The live instances
 

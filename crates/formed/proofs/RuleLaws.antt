@@ -16,6 +16,7 @@ use Rattle.literal.specs.Literal.{isGround, same}
 use Rattle.literal.specs.Environment.{isEnv, instantiate}
 use Rattle.library.specs.Plan.{Library}
 use Rattle.library.specs.Layout.{planCount, libraryOf}
+use Rattle.library.proofs.PartLaws.{length-plans}
 use Rattle.situation.specs.FailedSet.{has}
 use Rattle.model.specs.declared.Event.{Event}
 use Rattle.model.specs.declared.Instance.{Instance}
@@ -29,7 +30,6 @@ use Rattle.model.specs.Report.{toldKind}
 use Rattle.model.specs.WellFormed.{isNumbered, isEventSound, sameEvent, areEvents, isStatus, isSound, isInstance, areInstances, sameId, sameServed, isStack, isServed, isGoalFor, hasGoal, isPosted, hasPoster}
 use Rattle.state.specs.declared.Stack.{Stack}
 use Rattle.state.specs.View.{mostBelow, down, viewStack}
-use Rattle.jobs.proofs.PlaceLaws.{plans-counted}
 use Rattle.state.proofs.StackLaws.{length-down}
 
 -- ---- An event
@@ -70,7 +70,7 @@ module _ (bytes : List ℕ) (taken : ℕ) (event : Event) where
       pub event-decided : isGround (event .literal) ≡ true → (plans : ℕ) → plans ≡ planCount bytes
           → ltb (event .failed) (2 ^ plans) ≡ isEventSound (libraryOf bytes) taken event
       unfolding isEventSound
-      event-decided h plans e = rw (numbered, kind, h, plans-counted bytes, e)
+      event-decided h plans e = rw (numbered, kind, h, length-plans bytes, e)
 
 -- ---- The queue
 
@@ -101,29 +101,29 @@ sleeps tried kind status e h = rw (e, lt-ltb 0 tried h)
 module _ (bytes : List ℕ) (x : Instance) (plans : ℕ) (p : plans ≡ planCount bytes) where
   pub no-such-plan : plans ≤ x .plan → false ≡ isSound (libraryOf bytes) x
   unfolding isSound
-  no-such-plan h = rw (plans-counted bytes, ← p, le-ltb (x .plan) plans h)
+  no-such-plan h = rw (length-plans bytes, ← p, le-ltb (x .plan) plans h)
 
   module _ (plan : x .plan < plans) (states : ℕ) (s : states ≡ length (planOf (libraryOf bytes) x .states)) where
     pub no-such-state : states ≤ x .state → false ≡ isSound (libraryOf bytes) x
     unfolding isSound
-    no-such-state h = rw (plans-counted bytes, ← p, lt-ltb (x .plan) plans plan, ← s, le-ltb (x .state) states h)
+    no-such-state h = rw (length-plans bytes, ← p, lt-ltb (x .plan) plans plan, ← s, le-ltb (x .state) states h)
 
     module _ (state : x .state < states) (branches : ℕ) (b : branches ≡ length (branchesOf (libraryOf bytes) x)) where
       pub tried-too-many : branches < x .tried → false ≡ isSound (libraryOf bytes) x
       unfolding isSound
       tried-too-many h =
-          rw (plans-counted bytes, ← p, lt-ltb (x .plan) plans plan, ← s, lt-ltb (x .state) states state, ← b, lt-leb (x .tried) branches h)
+          rw (length-plans bytes, ← p, lt-ltb (x .plan) plans plan, ← s, lt-ltb (x .state) states state, ← b, lt-leb (x .tried) branches h)
 
       module _ (tried : x .tried ≤ branches) where
         pub no-environment : isEnv (x .env) ≡ false → false ≡ isSound (libraryOf bytes) x
         unfolding isSound
         no-environment h =
-            rw (plans-counted bytes, ← p, lt-ltb (x .plan) plans plan, ← s, lt-ltb (x .state) states state, ← b, le-leb (x .tried) branches tried, h)
+            rw (length-plans bytes, ← p, lt-ltb (x .plan) plans plan, ← s, lt-ltb (x .state) states state, ← b, le-leb (x .tried) branches tried, h)
 
         pub status-decides : isEnv (x .env) ≡ true → isStatus (x .tried) (branchOf (libraryOf bytes) x .kind) (x .status) ≡ isSound (libraryOf bytes) x
         unfolding isSound
         status-decides h =
-            rw (plans-counted bytes, ← p, lt-ltb (x .plan) plans plan, ← s, lt-ltb (x .state) states state, ← b, le-leb (x .tried) branches tried, h)
+            rw (length-plans bytes, ← p, lt-ltb (x .plan) plans plan, ← s, lt-ltb (x .state) states state, ← b, le-leb (x .tried) branches tried, h)
 
 module _ (library : Library) (made : ℕ) (jobs : List Job) where
   pub jobs-unsound : all (isInstance library made) jobs ≡ false → false ≡ (areInstances library made jobs && distinct sameServed jobs)

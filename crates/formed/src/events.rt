@@ -11,15 +11,13 @@ ghost use Rattle.model.specs.Report.{toldKind};
 ghost use Rattle.model.specs.WellFormed.{isWithin, isNumbered, isEventSound, areEvents};
 use library::contents::plan_count;
 use model::Event;
+use model::MOST_EXTERNAL;
 use model::Number;
 use model::Origin;
+use model::TOLD;
 use state::origin::is_goal;
 use state::origin::same_origin;
 
-// The last kind of an external event.
-const TOLD: u16 = 2;
-
-const MOST_EXTERNAL: usize = 32;
 // Plan numbers have at most this many bits in a failed set.
 const PLAN_BITS: u16 = 32;
 

@@ -1,11 +1,8 @@
 // The rules for each instance, and that no two are alike.
 ghost use mathlib.Core.Path.{_≡_};
-ghost use mathlib.Core.Bool.{_&&_, _||_};
+ghost use mathlib.Core.Bool.{_&&_};
 ghost use Prim.Native.Nat.{_≤_};
-ghost use lib.Dec.{eqb};
 ghost use Rattle.lists.specs.Search.{distinct};
-ghost use Rattle.literal.specs.Literal.{isConstant};
-ghost use Rattle.literal.specs.Environment.{isEnv};
 ghost use Rattle.library.specs.Layout.{libraryOf};
 ghost use Rattle.model.specs.Instance.{branchOf};
 ghost use Rattle.model.specs.WellFormed.{isStatus, isSound, isInstance, areInstances, sameServed};
@@ -17,44 +14,13 @@ use jobs::place::branch;
 use jobs::place::branch_count;
 use jobs::place::state_count;
 use library::contents::plan_count;
-use literal::Env;
+use literal::is_env;
+use model::ACHIEVE;
+use model::ACTION;
 use model::Instance;
 use model::Number;
 use model::Status;
 use state::origin::same_origin;
-
-const FIRST_VARIABLE: usize = 65528;
-
-const VARIABLES: usize = 8;
-// The kind of an external action, and of the first goal.
-const ACTION: u16 = 2;
-
-const ACHIEVE: u16 = 3;
-
-// A constant, or the variable itself.
-fn is_entry(variable: usize, term: u16) -> bool
-    ensures { λ r. ⌜ r ≡ (isConstant term || eqb term variable) ⌝ }
-{
-    let entry = term as usize;
-    if entry < FIRST_VARIABLE {
-        return true;
-    }
-    entry == variable
-}
-
-fn is_env(env: Env) -> bool
-    ensures { λ r. ⌜ r ≡ isEnv env ⌝ }
-{
-    let mut i: usize = 0;
-    while i < VARIABLES {
-        let term = env.terms[i];
-        if !is_entry(FIRST_VARIABLE + i, term) {
-            return false;
-        }
-        i += 1;
-    }
-    true
-}
 
 // A waiting instance's branch is external, a suspended one's a goal.
 fn is_status(library: &[u8], x: Instance) -> bool
@@ -116,7 +82,8 @@ fn is_instance(library: &[u8], made: Number, job: Job) -> bool
 // Each instance is sound, no two have one id, and no two serve one event.
 pub(crate) fn are_jobs(library: &[u8], made: Number, jobs: Jobs) -> bool
     requires { ⌜ jobs .count ≤ 64 ⌝ }
-    ensures { λ r. ⌜ r ≡ (areInstances (libraryOf (now (library .entry))) made (viewJobs jobs) && distinct sameServed (viewJobs jobs)) ⌝ }
+    ensures { λ r. ⌜ r ≡ (areInstances (libraryOf (now (library .entry))) made (viewJobs jobs)
+        && distinct sameServed (viewJobs jobs)) ⌝ }
 {
     let n = jobs.count;
     let mut i: usize = 0;

@@ -1,12 +1,11 @@
 // What an instance's plan says at the instance's place in it. Of a plan that does not exist there is nothing.
 ghost use mathlib.Core.Path.{_≡_};
 ghost use lib.ListN.{length};
-ghost use Rattle.library.specs.Plan.{noBranch};
 ghost use Rattle.library.specs.Layout.{libraryOf};
 ghost use Rattle.model.specs.Instance.{planOf, branchesOf, branchOf};
 use library::Branch;
+use library::bytes::no_branch;
 use library::contents::plan_count;
-use literal::Literal;
 use model::Instance;
 use state::origin::last_tried;
 
@@ -39,22 +38,6 @@ pub fn branch_count(library: &[u8], x: Instance) -> u16
         return 0;
     }
     library::plan::branch_count(library, plan as usize, x.state as usize)
-}
-
-fn no_branch() -> Branch
-    ensures { λ r. ⌜ r ≡ noBranch ⌝ }
-{
-    let literal = Literal {
-        head: 0,
-        first: 0,
-        second: 0,
-        third: 0,
-    };
-    Branch {
-        kind: 0,
-        literal: literal,
-        next: 0,
-    }
 }
 
 // The branch that was tried last: while an instance waits or is suspended, its branch.

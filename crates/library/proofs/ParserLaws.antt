@@ -9,6 +9,7 @@ use lib.ListN.{length, drop, length-drop}
 use lib.Dec.{leb, eqb}
 use Rattle.lists.specs.Search.{all}
 use Rattle.lists.proofs.BoolLaws.{and-parts}
+use Rattle.lists.proofs.AndLaws.{and-swap, all-both}
 use Rattle.literal.specs.declared.Literal.{Literal}
 use Rattle.library.specs.declared.Action.{Action}
 use Rattle.library.specs.declared.Branch.{Branch}
@@ -105,17 +106,6 @@ branch-reads bytes =
     (λ at. refl)
     (λ at. (let x : at + 2 + 8 ≡ at + 10 = omega arith in cc))
     (λ at. omega arith)
-
-and-swap : (a b c d : Bool) → ((a && b) && (c && d)) ≡ ((a && c) && (b && d))
-and-swap true true c d = refl
-and-swap true false true d = refl
-and-swap true false false d = refl
-and-swap false b c d = refl
-
-all-both : {A : Type 0} (p q : A → Bool) (xs : List A) → all (λ x. p x && q x) xs ≡ (all p xs && all q xs)
-unfolding all
-all-both p q [] = refl
-all-both p q (x ∷ xs) = rw (all-both p q xs) (and-swap (p x) (q x) (all p xs) (all q xs))
 
 -- a state's rules: what its branches are by themselves, and where they lead
 state-both : (count i : ℕ) (branches : List Branch) → stateOk count i branches ≡ (stateAlone branches && all (leads count i) branches)

@@ -42,6 +42,10 @@ module _ (bytes : List ℕ) where
       let place : 0 + 1 * i ≡ i = omega arith in
       getD-items (planOf bytes) 1 (planCount bytes) 0 i d h ∙ ap (planOf bytes) place
 
+  pub plan-past : (i : ℕ) (d : Plan) → planCount bytes ≤ i → getD (libraryOf bytes .plans) i d ≡ d
+  unfolding libraryOf
+  plan-past i d h = items-past (planOf bytes) 1 (planCount bytes) 0 i d h
+
   -- ---- Actions
 
   pub length-actions : (at : ℕ) → length (actionsAt bytes at) ≡ u16At bytes at

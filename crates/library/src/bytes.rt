@@ -19,7 +19,7 @@ pub(crate) const NEXT_STATE: usize = 10;
 
 // ---- What stands where nothing is
 
-pub(crate) fn no_literal() -> Literal
+pub fn no_literal() -> Literal
     ensures { λ r. ⌜ r ≡ noLiteral ⌝ }
 {
     Literal {
@@ -39,7 +39,7 @@ pub(crate) fn no_action() -> Action
     }
 }
 
-pub(crate) fn no_branch() -> Branch
+pub fn no_branch() -> Branch
     ensures { λ r. ⌜ r ≡ noBranch ⌝ }
 {
     Branch {

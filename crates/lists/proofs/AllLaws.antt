@@ -1,13 +1,13 @@
--- What a test of a whole list says at a place of it.
+-- What a test of a whole list says at a place of it, and after one element is changed.
 use Prim.Native.Nat.{ℕ, zero, suc, _<_}
-use mathlib.Core.Path.{_≡_}
+use mathlib.Core.Path.{_≡_, refl}
 use mathlib.Core.Bool.{Bool, true, false, not}
 use mathlib.Core.List.{List, [], _∷_}
 use native.Mathlib.Omega.{arith}
-use lib.ListN.{length, getD}
+use lib.ListN.{length, getD, set}
 use borrow.Author.Tests.{not-true}
 use Rattle.lists.specs.Search.{any, all, distinct}
-use Rattle.lists.proofs.BoolLaws.{and-parts, or-parts}
+use Rattle.lists.proofs.BoolLaws.{and-parts, and-both, or-parts}
 
 module _ {A : Type 0} where
   pub all-at : (test : A → Bool) (xs : List A) (i : ℕ) (d : A) → all test xs ≡ true → i < length xs → test (getD xs i d) ≡ true
@@ -15,6 +15,14 @@ module _ {A : Type 0} where
   all-at test [] i d e h = absurd (omega arith)
   all-at test (x ∷ xs) zero d e h = and-parts (test x) (all test xs) e .0
   all-at test (x ∷ xs) (suc i) d e h = all-at test xs i d (and-parts (test x) (all test xs) e .1) (omega arith)
+
+  pub all-set : (test : A → Bool) (xs : List A) (i : ℕ) (x : A) → all test xs ≡ true → test x ≡ true → all test (set xs i x) ≡ true
+  unfolding all
+  all-set test [] i x e g = refl
+  all-set test (y ∷ xs) zero x e g = and-both (test x) (all test xs) g (and-parts (test y) (all test xs) e .1)
+  all-set test (y ∷ xs) (suc i) x e g =
+      let parts = and-parts (test y) (all test xs) e in
+      and-both (test y) (all test (set xs i x)) (parts .0) (all-set test xs i x (parts .1) g)
 
   pub none-at : (test : A → Bool) (xs : List A) (i : ℕ) (d : A) → any test xs ≡ false → i < length xs → test (getD xs i d) ≡ false
   unfolding any

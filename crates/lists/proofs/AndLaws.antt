@@ -17,7 +17,8 @@ equal-tests true b f g = sym (f refl)
 equal-tests false true f g = g refl
 equal-tests false false f g = refl
 
-and-swap : (a b c d : Bool) → ((a && b) && (c && d)) ≡ ((a && c) && (b && d))
+-- the parts of two, each with its own
+pub and-swap : (a b c d : Bool) → ((a && b) && (c && d)) ≡ ((a && c) && (b && d))
 and-swap true true c d = refl
 and-swap true false true d = refl
 and-swap true false false d = refl

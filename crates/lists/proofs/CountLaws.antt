@@ -6,7 +6,6 @@ use mathlib.Core.Bool.{Bool, true, false, _&&_, not}
 use native.Mathlib.Omega.{arith}
 use native.Mathlib.Nat.{zero-add}
 use lib.ListN.{length}
-use Rattle.lists.proofs.BoolLaws.{both-ways}
 use Rattle.lists.specs.Counts.{bit, total, count, each}
 
 -- ---- Bits
@@ -36,14 +35,6 @@ bit-every false h = absurd (omega arith)
 pub bit-and : (a b c : Bool) → bit b ≤ bit c → bit (a && b) ≤ bit (a && c)
 bit-and true b c h = h
 bit-and false b c h = omega arith
-
-pub and-off : (a b : Bool) → a ≡ false → (a && b) ≡ false
-and-off true b e = both-ways {b = true} refl e
-and-off false b e = refl
-
-pub off-and : (a b : Bool) → b ≡ false → (a && b) ≡ false
-off-and true b e = e
-off-and false b e = refl
 
 -- ---- Sums
 

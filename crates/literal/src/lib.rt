@@ -1,8 +1,10 @@
 // Terms, literals and environments, and matching a literal against a ground one.
 ghost use mathlib.Core.Path.{_≡_};
 ghost use mathlib.Core.Option.{none};
-ghost use Rattle.literal.specs.Literal.{isGround, same, opposite};
-ghost use Rattle.literal.specs.Environment.{value, instantiate, emptyEnv, replace, bind};
+ghost use mathlib.Core.Bool.{_||_};
+ghost use lib.Dec.{eqb};
+ghost use Rattle.literal.specs.Literal.{isConstant, isGround, same, opposite};
+ghost use Rattle.literal.specs.Environment.{value, instantiate, emptyEnv, isEnv, replace, bind};
 ghost use Rattle.literal.specs.Match.{matchTerm, matchLiteral, answer};
 
 // Terms from this number on are the variables V0 to V7, and lower ones are constants.
@@ -80,6 +82,32 @@ pub fn empty_env() -> Env
     Env {
         terms: [65528, 65529, 65530, 65531, 65532, 65533, 65534, 65535],
     }
+}
+
+// A constant, or the variable itself.
+fn is_entry(variable: u16, term: u16) -> bool
+    ensures { λ r. ⌜ r ≡ (isConstant term || eqb term variable) ⌝ }
+{
+    if FIRST_VARIABLE <= term {
+        return term == variable;
+    }
+    true
+}
+
+// Whether each variable stands for a constant or, while it is unbound, for itself.
+pub fn is_env(env: Env) -> bool
+    ensures { λ r. ⌜ r ≡ isEnv env ⌝ }
+{
+    let mut i: usize = 0;
+    while i < VARIABLES {
+        let term = env.terms[i];
+        let variable = FIRST_VARIABLE + i as u16;
+        if !is_entry(variable, term) {
+            return false;
+        }
+        i += 1;
+    }
+    true
 }
 
 // What a term stands for.

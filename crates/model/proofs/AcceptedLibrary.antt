@@ -1,6 +1,6 @@
 -- The theorems for every library whose bytes are accepted: acceptance gives what the calls rest on.
 use Prim.Native.Nat.{ℕ, _≤_, _<_}
-use mathlib.Core.Path.{_≡_, sym, ap, _∙_, subst}
+use mathlib.Core.Path.{_≡_, sym, ap, subst}
 use mathlib.Core.Bool.{true}
 use mathlib.Core.List.{List, []}
 use native.Mathlib.Omega.{arith}
@@ -14,9 +14,9 @@ use Rattle.literal.specs.Literal.{isGround, same}
 use Rattle.belief.specs.Beliefs.{mostBeliefs, areSound, areBeliefs}
 use Rattle.library.specs.declared.Branch.{Branch}
 use Rattle.library.specs.Plan.{Plan, noPlan, noBranch}
-use Rattle.library.specs.Layout.{planCount, entryOff, planAt, planOf, beliefsOf, libraryOf}
+use Rattle.library.specs.Layout.{planCount, planOf, beliefsOf, libraryOf}
 use Rattle.library.specs.Refusal.{Accepted}
-use Rattle.library.proofs.RowLaws.{length-items, getD-items}
+use Rattle.library.proofs.PartLaws.{length-plans, plan-is}
 use Rattle.library.proofs.RuleFacts.{few-actions, some-state}
 use Rattle.library.proofs.Accepted.{few-beliefs, beliefs-ground, beliefs-distinct, keeps, branch-above, branch-below}
 use Rattle.model.specs.State.{mostChanges, Call}
@@ -32,22 +32,13 @@ use Rattle.model.proofs.Demand3Proof
 module _ (bytes : List ℕ) (accepted : Accepted bytes) where
   -- ---- Plans of the library as a value
 
-  counted : length (libraryOf bytes .plans) ≡ planCount bytes
-  unfolding libraryOf
-  counted = length-items (λ plan. planAt bytes (entryOff bytes plan)) 1 (planCount bytes) 0
-
   there : (plan : ℕ) → plan < length (libraryOf bytes .plans) → plan < planCount bytes
-  there plan h = omega (arith, counted)
-
-  plan-value : (plan : ℕ) → plan < length (libraryOf bytes .plans) → getD (libraryOf bytes .plans) plan noPlan ≡ planOf bytes plan
-  unfolding libraryOf
-  plan-value plan h =
-      getD-items (λ k. planAt bytes (entryOff bytes k)) 1 (planCount bytes) 0 plan noPlan (there plan h) ∙ ap (λ k. planAt bytes (entryOff bytes k)) (omega arith)
+  there plan h = omega (arith, length-plans bytes)
 
   -- what holds of a plan at its offset holds of its value
   of-plan : (P : Plan → Type 0) (plan : ℕ) → plan < length (libraryOf bytes .plans) → (plan < planCount bytes → P (planOf bytes plan))
       → P (getD (libraryOf bytes .plans) plan noPlan)
-  of-plan P plan h f = subst P (sym (plan-value plan h)) (f (there plan h))
+  of-plan P plan h f = subst P (sym (plan-is bytes plan noPlan (there plan h))) (f (there plan h))
 
   -- a state that has a branch exists
   has-state : (states : List (List Branch)) (state branch : ℕ) → branch < length (getD states state []) → state < length states

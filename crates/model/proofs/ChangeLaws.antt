@@ -2,7 +2,7 @@
 use Prim.Native.Nat.{ℕ, _≤_}
 use mathlib.Core.Path.{_≡_, refl, sym, subst}
 use mathlib.Core.Bool.{Bool, true, false, cond, not, _&&_}
-use mathlib.Core.List.{List, [], _∷_, _++_, foldl, foldl-append}
+use mathlib.Core.List.{List, [], _∷_, _++_, foldl}
 use native.Mathlib.Omega.{arith}
 use lib.Dec.{ltb}
 use lib.ListN.{length, length-append}
@@ -13,16 +13,12 @@ use Rattle.literal.specs.declared.Env.{Env}
 use Rattle.literal.specs.Literal.{isGround}
 use Rattle.belief.specs.declared.Change.{Change}
 use Rattle.belief.specs.Beliefs.{mostBeliefs, holds, areBeliefs, change, replay}
-use Rattle.belief.proofs.BeliefLaws.{plus-beliefs, minus-beliefs}
+use Rattle.belief.proofs.BeliefLaws.{plus-beliefs, minus-beliefs, replay-join}
 use Rattle.library.specs.declared.Action.{Action}
 use Rattle.model.specs.Changes.{changeOf, alters, when, effective, asChange, effects, areEffective}
 use Rattle.model.specs.Report.{toldKind, reportChanges}
 
 -- ---- Changes one after the other
-
-pub replay-join : (beliefs : List Literal) (now later : List Change) → replay beliefs (now ++ later) ≡ replay (replay beliefs now) later
-unfolding replay
-replay-join beliefs now later = foldl-append change beliefs now later
 
 pub effective-join : (beliefs : List Literal) (now later : List Change) → areEffective beliefs now ≡ true
     → areEffective (replay beliefs now) later ≡ true

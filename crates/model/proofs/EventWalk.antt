@@ -36,7 +36,7 @@ use Rattle.model.specs.Event.{newInstance, pushed, woken, make, close, t
 use Rattle.model.specs.Calls.{isRefusalFor}
 use Rattle.model.specs.Formed.{Formed, WellFormed}
 use Rattle.model.proofs.OriginLaws.{origin-equal, origin-same}
-use Rattle.model.proofs.SolutionLaws.{Apt, AptIf}
+use Rattle.situation.proofs.ChosenLaws.{Apt, AptIf}
 use Rattle.model.proofs.ChangeLaws.{report-kept, report-does, report-few}
 use Rattle.model.proofs.FormedLaws.{like-live, reform, poster-found}
 use Rattle.model.proofs.Step

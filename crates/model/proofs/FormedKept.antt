@@ -30,7 +30,7 @@ use Rattle.model.specs.declared.Status.{Status}
 use Rattle.model.specs.declared.Status.the-variants.{Active, Waiting, Suspended}
 use Rattle.model.specs.declared.Answer.{Answer}
 use Rattle.model.specs.State.{mostNumber, mostStacks, mostExternal, Intention, Call}
-use Rattle.model.specs.Instance.{isSuspended, planOf, branchesOf, branchOf, moved, tryNext, awake, pastGoal, pastAction, isActionKind, isGoalKind}
+use Rattle.model.specs.Instance.{isSuspended, planOf, branchesOf, branchOf, moved, tryNext, awake, pastBranch, isActionKind, isGoalKind}
 use Rattle.model.specs.Live.{isGoal, isExternal, isOf, goalOf, eventOn, jobsOn, live, serves}
 use Rattle.model.specs.Report.{newEvent}
 use Rattle.model.specs.Event.{newInstance, opened}
@@ -40,7 +40,7 @@ use Rattle.model.specs.Turn.{heightOf}
 use Rattle.model.specs.WellFormed.{isNumbered, isWithin, isStatus, isStack, isServed, isGoalFor}
 use Rattle.model.specs.Formed.{Acceptable, Sound, Stacked, Formed}
 use Rattle.model.proofs.OriginLaws.{same-origin, goal-tried, eqb-same}
-use Rattle.model.proofs.SolutionLaws.{Apt}
+use Rattle.situation.proofs.ChosenLaws.{Apt}
 use Rattle.model.proofs.InstanceLaws.{waiting-awake, waiting-idle, suspended-idle, tried-some, stack-both, Branching, past-sound}
 use Rattle.model.proofs.TryLaws.{Posting}
 use Rattle.model.proofs.LinkedLaws
@@ -257,18 +257,18 @@ module _ {library : Library} {b : List Literal} {n m : ℕ} where
     }
 
     succeeded-above-formed : {c : Instance} {below : List Instance} → Acceptable library → goalOf c ≡ e .origin → isSuspended (c .status) ≡ true
-        → Formed library b (e ∷ q) (stack k t (c ∷ below) ∷ ks) n m → Formed library b q (stack k (pastGoal library c) below ∷ ks) n m
-    unfolding live jobsOn pastGoal
+        → Formed library b (e ∷ q) (stack k t (c ∷ below) ∷ ks) n m → Formed library b q (stack k (pastBranch library c) below ∷ ks) n m
+    unfolding live jobsOn pastBranch
     succeeded-above-formed {c} {below} r g w i =
         let l = local-popped t (goalOf c) (i .local) in
         let h = lower k t c below (first-stacked i) in
         let x = top-sound c (eventOn k below) l in
         record {
           table = i .table;
-          local = local-closed e (local-moved c (pastGoal library c) (eventOn k below) refl (past-sound library r c x (tried-some (c .tried) _ (c .status) (x .status) (suspended-idle (c .status) w)) (c .env) (x .env)) l);
+          local = local-closed e (local-moved c (pastBranch library c) (eventOn k below) refl (past-sound library r c x (tried-some (c .tried) _ (c .status) (x .status) (suspended-idle (c .status) w)) (c .env) (x .env)) l);
           linked = LinkedLaws.link-past (i .linked) g s (sym g) w (c .env) (branchOf library c .next) 0 Active refl;
           few = i .few;
-          stacked = restacked (stack k t (c ∷ below)) (stack k (pastGoal library c) below) ks (i .stacked) (awake-stacked k c (pastGoal library c) below h refl);
+          stacked = restacked (stack k t (c ∷ below)) (stack k (pastBranch library c) below) ks (i .stacked) (awake-stacked k c (pastBranch library c) below h refl);
           taken-small = i .taken-small;
           made-small = i .made-small;
         }
@@ -278,7 +278,7 @@ module _ {library : Library} {b : List Literal} {n m : ℕ} where
 pub step-formed : {library : Library} → Acceptable library
     → {b : List Literal} {n m n′ m′ : ℕ} {c : Call} {q q′ : List Event} {ks ks′ : List Intention} {a : Answer}
     → Step library n m c q ks a n′ m′ q′ ks′ → Formed library b q ks n m → Formed library b q′ ks′ n′ m′
-unfolding isStatus pastAction planOf branchesOf
+unfolding isStatus pastBranch planOf branchesOf
 step-formed r Step.idle i = i
 step-formed r (Step.refused number e) i = i
 step-formed r (Step.taken kind l x g f h) i = taken-formed kind l x g f h i

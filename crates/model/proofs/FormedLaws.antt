@@ -7,10 +7,10 @@ use native.Mathlib.Omega.{arith}
 use lib.Dec.{leb}
 use lib.ListN.{length}
 use Rattle.lists.specs.Search.{all, distinct}
-use Rattle.lists.specs.Counts.{bit, count, Every}
+use Rattle.lists.specs.Counts.{bit, count}
 use Rattle.lists.proofs.BoolLaws.{and-parts}
 use Rattle.lists.proofs.CountLaws.{bit-left, bit-right, bit-every, total-append, total-length, total-le}
-use Rattle.lists.proofs.TestCounts.{any-some, all-every}
+use Rattle.lists.proofs.TestCounts.{any-some}
 use Rattle.lists.proofs.LikeLaws.{Like, like-each}
 use Rattle.literal.specs.declared.Literal.{Literal}
 use Rattle.literal.specs.Literal.{isGround, same}
@@ -47,9 +47,9 @@ reform {ks = ks} {ks′ = ks′} a b i = record {
   made-small = i .made-small;
 }
 
-pub beliefs-ground : (beliefs : List Literal) → areBeliefs beliefs ≡ true → Every isGround beliefs
+pub beliefs-ground : (beliefs : List Literal) → areBeliefs beliefs ≡ true → all isGround beliefs ≡ true
 unfolding areBeliefs
-beliefs-ground beliefs h = all-every isGround beliefs (and-parts (all isGround beliefs) (distinct same beliefs) (and-parts (leb (length beliefs) mostBeliefs) (areSound beliefs) h .1) .0)
+beliefs-ground beliefs h = and-parts (all isGround beliefs) (distinct same beliefs) (and-parts (leb (length beliefs) mostBeliefs) (areSound beliefs) h .1) .0
 
 -- ---- A first stack
 

@@ -8,7 +8,8 @@ use lib.Dec.{eqb}
 use borrow.Author.Tests.{eqb-false, eqb-true}
 use Rattle.lists.specs.Counts.{bit, total, count}
 use Rattle.lists.proofs.BoolLaws.{by-cases, both-ways, and-both}
-use Rattle.lists.proofs.CountLaws.{bit-left, bit-none, off-and, total-le}
+use Rattle.lists.proofs.AndLaws.{and-second}
+use Rattle.lists.proofs.CountLaws.{bit-left, bit-none, total-le}
 use Rattle.literal.specs.declared.Literal.{Literal}
 use Rattle.library.specs.Plan.{Library}
 use Rattle.situation.specs.FailedSet.{has, insert}
@@ -21,7 +22,7 @@ use Rattle.model.specs.declared.Origin.the-variants.{External, Goal}
 use Rattle.model.specs.declared.Status.the-variants.{Active, Waiting}
 use Rattle.model.specs.declared.Answer.{Answer}
 use Rattle.model.specs.State.{Intention, Call}
-use Rattle.model.specs.Instance.{isSuspended, branchOf, pastGoal, pastAction}
+use Rattle.model.specs.Instance.{isSuspended, branchOf, pastBranch}
 use Rattle.model.specs.Live.{isGoal, sameOrigin, isOf, goalOf, eventOn, Job, jobsOn, live, serves}
 use Rattle.model.specs.Event.{newInstance}
 use Rattle.model.specs.End.{marked}
@@ -29,7 +30,7 @@ use Rattle.model.specs.History.{Making, making, makingOf, History, event
 use Rattle.model.specs.Demand3.{isFor}
 use Rattle.model.specs.Formed.{Acceptable, Formed}
 use Rattle.model.proofs.OriginLaws.{eqb-same, origin-equal, origin-same, same-origin}
-use Rattle.model.proofs.SolutionLaws.{Apt}
+use Rattle.situation.proofs.ChosenLaws.{Apt}
 use Rattle.model.proofs.InstanceLaws.{waiting-awake, waiting-idle, suspended-idle, tried-some, past-up}
 use Rattle.model.proofs.LinkedLaws.{job}
 use Rattle.model.proofs.LocalLaws.{top-sound, local-popped}
@@ -130,14 +131,14 @@ module _ {h : History} {e : Event} {q : List Event} {t : Instance} {o : Origin} 
       unfailed-marked x plan u = by-cases (eqb plan (t .plan))
           -- the plan that failed: no event of this origin is open for it any more
           (λ b. let d : has (insert (e .failed) (t .plan)) plan ≡ true = subst (λ y. has (insert (e .failed) (t .plan)) y ≡ true) (sym (eqb-true plan (t .plan) b)) (insert-has (e .failed) (t .plan)) in
-          let z : bit (isOf x e && not (has (insert (e .failed) (t .plan)) plan)) ≡ 0 = ap (λ c. bit (isOf x e && not c)) d ∙ ap bit (off-and (isOf x e) false refl) in
+          let z : bit (isOf x e && not (has (insert (e .failed) (t .plan)) plan)) ≡ 0 = ap (λ c. bit (isOf x e && not c)) d ∙ ap bit (and-second (isOf x e) false refl) in
           by-cases (sameOrigin x o)
           (λ a. absurd (omega (arith, only x plan a)))
           (λ f. omega (arith, i .unfailed x plan (omega arith), ap (λ c. bit (c && eqb plan (t .plan))) f)))
           -- another plan
           (λ b. let d = insert-other (e .failed) (t .plan) plan (eqb-false plan (t .plan) b) in
           let r = i .unfailed x plan (omega (arith, ap (λ c. bit (isOf x e && not c)) d)) in
-          omega (arith, r, ap (λ c. bit (sameOrigin x o && c)) b, ap bit (off-and (sameOrigin x o) false refl)))
+          omega (arith, r, ap (λ c. bit (sameOrigin x o && c)) b, ap bit (and-second (sameOrigin x o) false refl)))
 
   -- E of a bottom
   closing-bottom : isGoal o ≡ false → Invariant (noteSucceeded (noteClosed h (eventOf (t .id) (h .made))) (t .id)) q J n m
@@ -146,8 +147,8 @@ module _ {h : History} {e : Event} {q : List Event} {t : Instance} {o : Origin} 
 -- E of one above its poster, which steps past its goal
 closing-above : (library : Library) {h : History} {e : Event} {q : List Event} {t c : Instance} {u : Origin} {J : List Job} {n m : ℕ} (i : Invariant h (e ∷ q) (job t (goalOf c) ∷ job c u ∷ J) n m)
     → goalOf c ≡ e .origin → isSuspended (t .status) ≡ false → isSuspended (c .status) ≡ true → c .state < branchOf library c .next
-    → Invariant (noteSucceeded (noteClosed h (eventOf (t .id) (h .made))) (t .id)) q (job (pastGoal library c) u ∷ J) n m
-unfolding pastGoal
+    → Invariant (noteSucceeded (noteClosed h (eventOf (t .id) (h .made))) (t .id)) q (job (pastBranch library c) u ∷ J) n m
+unfolding pastBranch
 closing-above library {h} {t = t} {c = c} i g s w up = closing i g s (λ p. refl)
     (λ p. omega (arith, i .goals p, ap (λ x. bit (isGoal x && p x)) g, ap (λ b. bit (b && p (goalOf t))) s, ap (λ b. bit (b && p (goalOf c))) w))
     (omega (arith, i .lasts))
@@ -180,7 +181,7 @@ module _ {library : Library} (r : Acceptable library) where
 
   pub step-kept : {h : History} {b : List Literal} {n m n′ m′ : ℕ} {c : Call} {q q′ : List Event} {ks ks′ : List Intention} {a : Answer}
       → Step library n m c q ks a n′ m′ q′ ks′ → Formed library b q ks n m → Invariant h q (live ks) n m → Invariant (note h c a) q′ (live ks′) n′ m′
-  unfolding note live jobsOn pastAction
+  unfolding note live jobsOn pastBranch
   step-kept Step.idle w i = i
   step-kept (Step.refused number e) w i = i
   step-kept (Step.taken kind l x g f y) w i = InvariantSteps.taking i kind l

@@ -8,7 +8,8 @@ use lib.Dec.{eqb, ltb, leb}
 use borrow.Author.Tests.{eqb-true, eqb-false, ltb-true, leb-true, lt-ltb, le-ltb, le-leb, lt-leb, ne-eqb}
 use Rattle.lists.specs.Counts.{bit, total, count}
 use Rattle.lists.proofs.BoolLaws.{by-cases, and-parts}
-use Rattle.lists.proofs.CountLaws.{bit-left, bit-le-one, bit-and, and-off, off-and, total-le, total-unless, total-zero}
+use Rattle.lists.proofs.AndLaws.{and-first, and-second}
+use Rattle.lists.proofs.CountLaws.{bit-left, bit-le-one, bit-and, total-le, total-unless, total-zero}
 use Rattle.literal.specs.declared.Literal.{Literal}
 use Rattle.literal.specs.declared.Env.{Env}
 use Rattle.situation.specs.FailedSet.{has}
@@ -114,7 +115,7 @@ module _ {h : History} {q : List Event} {J : List Job} {n m : ℕ} (i : Invarian
   early-new : (t : Spot) → bit (isEarly x t) ≤ bit (ltb m (t .id))
   early-new t = by-cases (eqb (t .id) (x .id))
       (λ e. omega (arith, ap bit (lt-ltb m (t .id) (omega (arith, eqb-true (t .id) (x .id) e))), bit-le-one (isEarly x t)))
-      (λ e. omega (arith, ap bit (and-off (eqb (t .id) (x .id)) (isAhead (x .state) (x .tried) (t .state) (t .branch)) e)))
+      (λ e. omega (arith, ap bit (and-first (eqb (t .id) (x .id)) (isAhead (x .state) (x .tried) (t .state) (t .branch)) e)))
 
   later : (a : ℕ) → bit (ltb (m + 1) a) ≤ bit (ltb m a)
   later a = by-cases (ltb (m + 1) a)
@@ -129,7 +130,7 @@ module _ {h : History} {q : List Event} {J : List Job} {n m : ℕ} (i : Invarian
     events = i .events;
     goals = λ p. omega (arith, i .goals p, ap (λ b. bit (b && p (goalOf x))) awake);
     known = λ p. omega (arith, i .known p, ap (λ k. bit (p (making k (x .plan) o))) new, ap (λ k. bit (p (making (m + 1) k o))) same);
-    lasts = omega (arith, i .lasts, ap bit (and-off (isSuspended (x .status)) (not (sameOrigin (goalOf x) (lastGoal (x .id) (h .posted)))) awake));
+    lasts = omega (arith, i .lasts, ap bit (and-first (isSuspended (x .status)) (not (sameOrigin (goalOf x) (lastGoal (x .id) (h .posted)))) awake));
     arrived = λ v e. by-cases (sameOrigin v o)
         (λ t. let q₁ : 1 ≤ count (isOf v) q = subst (λ y. 1 ≤ count (isOf y) q) (sym (origin-equal v o t)) queued in omega (arith, i .events (sameOrigin v)))
         (λ f. i .arrived v (omega (arith, ap bit f)));
@@ -213,8 +214,8 @@ module _ {h : History} {q : List Event} {t : Instance} {w : Origin} {J : List Jo
       → total (λ j. count (isEarly (j .instance)) (here t ∷ h .tries)) (job (moved t v s k u) w ∷ J) ≡ 0
   passed-new v s k u a b =
       let r = total-unless (λ j. eqb (t .id) (j .instance .id)) (λ j. bit (isEarly (j .instance) (here t)) + count (isEarly (j .instance)) (h .tries)) (λ j. count (isEarly (j .instance)) (h .tries)) J alone
-      (λ j e. omega (arith, ap bit (and-off (eqb (t .id) (j .instance .id)) (isAhead (j .instance .state) (j .instance .tried) (t .state) (t .tried)) e))) in
-      omega (arith, r, i .passed, fewer-early t v s k u (h .tries) a, bit-and (eqb (t .id) (t .id)) (isAhead s k (t .state) (t .tried)) false (omega (arith, b)), ap bit (off-and (eqb (t .id) (t .id)) false refl))
+      (λ j e. omega (arith, ap bit (and-first (eqb (t .id) (j .instance .id)) (isAhead (j .instance .state) (j .instance .tried) (t .state) (t .tried)) e))) in
+      omega (arith, r, i .passed, fewer-early t v s k u (h .tries) a, bit-and (eqb (t .id) (t .id)) (isAhead s k (t .state) (t .tried)) false (omega (arith, b)), ap bit (and-second (eqb (t .id) (t .id)) false refl))
 
   recent-new : bit (ltb m (t .id)) + count (λ x. ltb m (x .id)) (h .tries) ≡ 0
   recent-new = omega (arith, live-old i, i .recent)
@@ -229,7 +230,7 @@ module _ {h : History} {q : List Event} {t : Instance} {w : Origin} {J : List Jo
     events = i .events;
     goals = λ p. omega (arith, i .goals p, ap (λ c. bit (c && p (goalOf t))) e, ap (λ c. bit (c && p (goalOf (moved t v s k u)))) f);
     known = i .known;
-    lasts = omega (arith, i .lasts, ap bit (and-off (isSuspended u) (not (sameOrigin (goalOf (moved t v s k u)) (lastGoal (t .id) (h .posted)))) f));
+    lasts = omega (arith, i .lasts, ap bit (and-first (isSuspended u) (not (sameOrigin (goalOf (moved t v s k u)) (lastGoal (t .id) (h .posted)))) f));
     arrived = i .arrived;
     plans = i .plans;
     unfailed = i .unfailed;

@@ -1,7 +1,5 @@
 pub mod SmallCases
 pub mod OriginLaws
-pub mod FailedSetLaws
-pub mod SolutionLaws
 pub mod ChangeLaws
 pub mod InstanceLaws
 pub mod TryLaws

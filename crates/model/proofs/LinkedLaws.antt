@@ -9,7 +9,8 @@ use borrow.Author.Tests.{eqb-true, eq-eqb}
 use Rattle.lists.specs.Search.{any}
 use Rattle.lists.specs.Counts.{bit, count, Every}
 use Rattle.lists.proofs.BoolLaws.{by-cases, both-ways}
-use Rattle.lists.proofs.CountLaws.{bit-le-one, and-off, off-and, total-le, total-same, total-unless, total-zero, count-less}
+use Rattle.lists.proofs.AndLaws.{and-first, and-second}
+use Rattle.lists.proofs.CountLaws.{bit-le-one, total-le, total-same, total-unless, total-zero, count-less}
 use Rattle.lists.proofs.TestCounts.{any-none, any-some, some-any, none-any}
 use Rattle.lists.proofs.LikeLaws.{Like}
 use Rattle.literal.specs.declared.Env.{Env}
@@ -52,11 +53,11 @@ relink {library} {q} {q′} {J} {J′} a b i = record {
 
 served-off : (library : Library) (j : Job) (e : Event) → sameOrigin (e .origin) (j .event) ≡ false → isServed library j e ≡ false
 unfolding isServed
-served-off library j e f = and-off _ _ (origin-turned (e .origin) (j .event) f)
+served-off library j e f = and-first _ _ (origin-turned (e .origin) (j .event) f)
 
 goal-off : (library : Library) (x : Instance) (e : Event) → sameOrigin (e .origin) (goalOf x) ≡ false → isGoalFor library x e ≡ false
 unfolding isGoalFor
-goal-off library x e f = and-off _ _ (origin-turned (e .origin) (goalOf x) f)
+goal-off library x e f = and-first _ _ (origin-turned (e .origin) (goalOf x) f)
 
 -- what holds with less holds with more
 or-more : (a b : Bool) → bit (not (a || b)) ≤ bit (not b)
@@ -125,7 +126,7 @@ posters-less library q J e z h = sym (total-unless (isPosted (e .origin)) (λ j.
 
 -- nobody has an external event for a goal
 pub no-poster : (o : Origin) (J : List Job) → isGoal o ≡ false → count (isPosted o) J ≡ 0
-no-poster o J p = total-same (λ j. bit (isPosted o j)) (λ j. 0) J (λ j. ap bit (off-and (isSuspended (j .instance .status)) _ (origin-turned _ _ (goal-external (goalOf (j .instance)) o refl p)))) ∙ total-zero J
+no-poster o J p = total-same (λ j. bit (isPosted o j)) (λ j. 0) J (λ j. ap bit (and-second (isSuspended (j .instance .status)) _ (origin-turned _ _ (goal-external (goalOf (j .instance)) o refl p)))) ∙ total-zero J
 
 -- nobody but the first has its goal
 pub other-goals : (t : Instance) (o u : Origin) (J : List Job) → ((k : ℕ) → count (λ j. eqb k (j .instance .id)) (job t o ∷ J) ≤ 1) → u ≡ goalOf t
@@ -136,7 +137,7 @@ other-goals t o u J once p = count-less (isPosted u) (λ j. eqb (t .id) (j .inst
     go : (j : Job) → bit (isPosted u j) ≤ bit (eqb (t .id) (j .instance .id))
     go j = by-cases (sameOrigin u (goalOf (j .instance)))
         (λ e. let a = sym p ∙ origin-equal u (goalOf (j .instance)) e in let b : t .id ≡ j .instance .id = cc in omega (arith, ap bit (eq-eqb (t .id) (j .instance .id) b), bit-le-one (isPosted u j)))
-        (λ e. omega (arith, ap bit (off-and (isSuspended (j .instance .status)) _ e)))
+        (λ e. omega (arith, ap bit (and-second (isSuspended (j .instance .status)) _ e)))
 
 -- N
 pub link-dropped : {library : Library} {e : Event} {q : List Event} {J : List Job} → Linked library (e ∷ q) J → isGoal (e .origin) ≡ false

@@ -10,12 +10,14 @@ use lib.Pow.{pow-pos}
 use borrow.Author.Tests.{lt-ltb, ltb-true, le-leb, leb-true, lt-leb, eqb-true}
 use Rattle.lists.specs.Counts.{bit, count}
 use Rattle.lists.proofs.BoolLaws.{by-cases, both-ways, and-parts, and-both}
-use Rattle.lists.proofs.CountLaws.{bit-le-one, bit-every, off-and, total-le}
+use Rattle.lists.proofs.AndLaws.{and-second}
+use Rattle.lists.proofs.CountLaws.{bit-le-one, bit-every, total-le}
 use Rattle.lists.proofs.LikeLaws.{Like}
 use Rattle.literal.specs.declared.Literal.{Literal}
 use Rattle.literal.specs.Literal.{isGround}
 use Rattle.library.specs.Plan.{Library}
 use Rattle.situation.specs.FailedSet.{insert}
+use Rattle.situation.proofs.FailedLaws.{insert-below}
 use Rattle.model.specs.declared.Event.{Event}
 use Rattle.model.specs.declared.Instance.{Instance}
 use Rattle.model.specs.declared.Origin.{Origin}
@@ -26,7 +28,6 @@ use Rattle.model.specs.Report.{toldKind, newEvent}
 use Rattle.model.specs.End.{marked}
 use Rattle.model.specs.WellFormed.{isWithin, isNumbered, isSound}
 use Rattle.model.specs.Formed.{Sound, Local}
-use Rattle.model.proofs.FailedSetLaws.{insert-below}
 use Rattle.model.proofs.InstanceLaws.{sound-both, sound-parts}
 use Rattle.model.proofs.LinkedLaws.{job}
 
@@ -62,7 +63,7 @@ numbered-more n (Goal i s b) = omega arith
 -- the next number is not in the range
 pub number-new : (n k : ℕ) → bit (eqb (n + 1) k) ≤ bit (not (isWithin n k))
 number-new n k = by-cases (eqb (n + 1) k)
-    (λ e. let d = eqb-true (n + 1) k e in omega (arith, ap bit e, ap (λ x. bit (not x)) (off-and (leb 1 k) (leb k n) (lt-leb k n (omega arith)))))
+    (λ e. let d = eqb-true (n + 1) k e in omega (arith, ap bit e, ap (λ x. bit (not x)) (and-second (leb 1 k) (leb k n) (lt-leb k n (omega arith)))))
     (λ e. omega (arith, ap bit e))
 
 pub origin-new : (n : ℕ) (o : Origin) → bit (sameOrigin (External (n + 1)) o) ≤ bit (not (isNumbered n o))

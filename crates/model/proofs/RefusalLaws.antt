@@ -1,4 +1,4 @@
--- A refusal leaves the state as it was, for every state: every other answer has no refusal's number.
+-- A refusal leaves the state as it was, for every state: no other answer is a refusal.
 use Prim.Native.Nat.{ℕ}
 use mathlib.Core.Path.{refl}
 use mathlib.Core.Option.{Option, none, some}
@@ -23,31 +23,31 @@ use Rattle.model.specs.Turn.{Move, fails, succeeds, tries, nextMove, hei
 use Rattle.model.specs.Outcome.{isAwaiting, outcomeBy, told}
 use Rattle.model.specs.Cycle.{nextEvent, nextStack, choiceFor, cycleBy, cycled}
 use Rattle.model.specs.WellFormed.{isWellFormed}
-use Rattle.model.specs.Calls.{act, callBy, call, refusalIn}
+use Rattle.model.specs.Calls.{act, callBy, call}
 use Rattle.model.specs.Promises.{Unchanged}
 
 module _ (library : Library) (s : AgentState) where
   -- ---- Report
 
   report-unchanged : (kind : ℕ) (l : Literal) → Unchanged s (reported s kind l)
-  unfolding reported reportBy takeIn refusalIn
+  unfolding reported reportBy takeIn
   report-unchanged kind l = go (eqb (reportRefusal s kind l) 0)
     where
       go : (b : Bool) → Unchanged s (cond b (takeIn s kind l (reportChanges (s .beliefs) kind l)) (refuse (reportRefusal s kind l) s))
-      go true e = both-ways refl e
+      go true e = both-ways e refl
       go false e = refl
 
   -- ---- Cycle
 
   make-unchanged : (chosen : Chosen) (o : Origin) → Unchanged s (make s chosen o)
-  unfolding make refusalIn
-  make-unchanged chosen (External n) e = both-ways refl e
-  make-unchanged chosen (Goal i state branch) e = both-ways refl e
+  unfolding make
+  make-unchanged chosen (External n) e = both-ways e refl
+  make-unchanged chosen (Goal i state branch) e = both-ways e refl
 
   close-unchanged : (event : Placed Event) (o : Origin) → Unchanged s (close s event o)
-  unfolding close refusalIn
-  close-unchanged event (External n) e = both-ways refl e
-  close-unchanged event (Goal i state branch) e = both-ways refl e
+  unfolding close
+  close-unchanged event (External n) e = both-ways e refl
+  close-unchanged event (Goal i state branch) e = both-ways e refl
 
   take-up-unchanged : (event : Placed Event) (o : Option Chosen) → Unchanged s (takeUp s event o)
   unfolding takeUp
@@ -59,31 +59,31 @@ module _ (library : Library) (s : AgentState) where
       go false = λ e. refl
 
   tried-unchanged : (k : Placed Intention) (b : Branch) (t : Try) → Unchanged s (tried s k b t)
-  unfolding tried refusalIn
-  tried-unchanged k b Try.missed e = both-ways refl e
-  tried-unchanged k b (Try.stepped env changes) e = both-ways refl e
-  tried-unchanged k b (Try.done l) e = both-ways refl e
-  tried-unchanged k b (Try.posted l) e = both-ways refl e
+  unfolding tried
+  tried-unchanged k b Try.missed e = both-ways e refl
+  tried-unchanged k b (Try.stepped env changes) e = both-ways e refl
+  tried-unchanged k b (Try.done l) e = both-ways e refl
+  tried-unchanged k b (Try.posted l) e = both-ways e refl
 
   turn-unchanged : (k : Placed Intention) (m : Move) → Unchanged s (turnBy library s k m)
-  unfolding turnBy fail succeed endTop refusalIn
-  turn-unchanged k fails e = both-ways refl e
-  turn-unchanged k succeeds e = both-ways refl e
+  unfolding turnBy fail succeed endTop
+  turn-unchanged k fails e = both-ways e refl
+  turn-unchanged k succeeds e = both-ways e refl
   turn-unchanged k (tries b) e = tried-unchanged k b (attempt (s .beliefs) (heightOf (k .it)) (k .it .top .env) b) e
 
   cycle-unchanged : (event : Option (Placed Event)) (k : Option (Placed Intention)) → Unchanged s (cycleBy library s event k)
-  unfolding cycleBy turn refusalIn
+  unfolding cycleBy turn
   cycle-unchanged (some event) k = take-up-unchanged event (choiceFor library s (event .it))
   cycle-unchanged none (some k) = turn-unchanged k (nextMove library (s .beliefs) (k .it .top))
-  cycle-unchanged none none = λ e. both-ways refl e
+  cycle-unchanged none none = λ e. both-ways e refl
 
   -- ---- Outcome
 
   outcome-unchanged : (worked : Bool) (k : Option (Placed Intention)) → Unchanged s (outcomeBy library s worked k)
-  unfolding outcomeBy refusalIn
+  unfolding outcomeBy
   outcome-unchanged worked none e = refl
-  outcome-unchanged true (some k) e = both-ways refl e
-  outcome-unchanged false (some k) e = both-ways refl e
+  outcome-unchanged true (some k) e = both-ways e refl
+  outcome-unchanged false (some k) e = both-ways e refl
 
   -- ---- Every call
 

@@ -21,7 +21,7 @@ use Rattle.model.specs.declared.Status.the-variants.{Active, Waiting, Su
 use Rattle.model.specs.declared.Answer.{Answer}
 use Rattle.model.specs.declared.Answer.the-variants.{Taken, Idle, Dropped, Unmet, MadeExternal, MadeGoal, Stepped, Missed, Done, Posted, Succeeded, Failed, Refused}
 use Rattle.model.specs.State.{mostNumber, mostStacks, mostExternal, Intention, Call, report, cycle, outcome}
-use Rattle.model.specs.Instance.{isWaiting, isSuspended, lastTried, stepTo, tryNext, awake, pastGoal, pastAction, isActionKind}
+use Rattle.model.specs.Instance.{isWaiting, isSuspended, lastTried, stepTo, tryNext, awake, pastBranch, isActionKind}
 use Rattle.model.specs.Live.{isExternal, goalOf, live, serves}
 use Rattle.model.specs.Report.{toldKind, newEvent}
 use Rattle.model.specs.Event.{newInstance, opened}
@@ -29,7 +29,7 @@ use Rattle.model.specs.Try.{newGoal}
 use Rattle.model.specs.End.{marked}
 use Rattle.model.specs.Turn.{heightOf}
 use Rattle.model.specs.Calls.{isRefusalFor}
-use Rattle.model.proofs.SolutionLaws.{Apt}
+use Rattle.situation.proofs.ChosenLaws.{Apt}
 use Rattle.model.proofs.InstanceLaws.{Branching}
 use Rattle.model.proofs.TryLaws.{Posting}
 use Rattle.model.proofs.FormedLaws.{stack}
@@ -87,9 +87,9 @@ pub data Step (library : Library) (n m : ℕ) : Call → List Event → List Int
   succeeded-above : {e : Event} {q : List Event} {k : ℕ} {t c : Instance} {below : List Instance} {ks : List Intention}
       → isSuspended (t .status) ≡ false → goalOf c ≡ e .origin
       → isSuspended (c .status) ≡ true
-      → Step library n m cycle (e ∷ q) (stack k t (c ∷ below) ∷ ks) (Succeeded (t .id)) n m q (stack k (pastGoal library c) below ∷ ks)
+      → Step library n m cycle (e ∷ q) (stack k t (c ∷ below) ∷ ks) (Succeeded (t .id)) n m q (stack k (pastBranch library c) below ∷ ks)
   -- outcome
   worked : {id : ℕ} {q : List Event} {k : ℕ} {t : Instance} {below : List Instance} {ks : List Intention} → isWaiting (t .status) ≡ true
-      → Step library n m (outcome id true) q (stack k t below ∷ ks) (Stepped (t .id) (t .state) (lastTried t) (pastAction library t .state)) n m q (stack k (pastAction library t) below ∷ ks)
+      → Step library n m (outcome id true) q (stack k t below ∷ ks) (Stepped (t .id) (t .state) (lastTried t) (pastBranch library t .state)) n m q (stack k (pastBranch library t) below ∷ ks)
   not-worked : {id : ℕ} {q : List Event} {k : ℕ} {t : Instance} {below : List Instance} {ks : List Intention} → isWaiting (t .status) ≡ true
       → Step library n m (outcome id false) q (stack k t below ∷ ks) (Missed (t .id) (t .state) (lastTried t)) n m q (stack k (awake t) below ∷ ks)

@@ -8,7 +8,7 @@ use native.Mathlib.Omega.{arith}
 use lib.Dec.{ltb, eqb}
 use lib.ListN.{length}
 use borrow.Author.Tests.{ltb-false, leb-false, le-leb, eqb-false, not-false}
-use Rattle.lists.specs.Counts.{Every}
+use Rattle.lists.specs.Search.{all}
 use Rattle.lists.proofs.BoolLaws.{or-parts}
 use Rattle.literal.specs.declared.Literal.{Literal}
 use Rattle.literal.specs.declared.Env.{Env}
@@ -22,7 +22,7 @@ use Rattle.model.specs.State.{mostHeight}
 use Rattle.model.specs.Instance.{actionKind, achieveKind, isActionKind, isGoalKind}
 use Rattle.model.specs.Changes.{changeOf, effective, areEffective}
 use Rattle.model.specs.Try.{Try, missed, stepped, done, posted, isPossible, tryChange, tryAction, answerTo, isBarred, pursue, attempt}
-use Rattle.model.proofs.SolutionLaws.{EnvIf, ask-env}
+use Rattle.situation.proofs.SolutionLaws.{EnvIf, ask-env-if}
 use Rattle.model.proofs.ChangeLaws.{effective-kept, effective-does, effective-few}
 
 -- a step's environment and changes
@@ -46,7 +46,7 @@ module _ (beliefs : List Literal) (height : ℕ) (env : Env) (b : Branch) where
   TryOk (done literal) = isActionKind (b .kind) ≡ true
   TryOk (posted goal) = Posting height (b .kind) (instantiate env (b .literal)) goal
 
-  module _ (h : areBeliefs beliefs ≡ true) (ground : Every isGround beliefs) (e : isEnv env ≡ true) where
+  module _ (h : areBeliefs beliefs ≡ true) (ground : all isGround beliefs ≡ true) (e : isEnv env ≡ true) where
     still : (next : Env) → isEnv next ≡ true → Stepping beliefs next []
     unfolding replay areEffective
     still next p = record { env-ok = p; table = h; effect = refl; few = omega arith }
@@ -74,7 +74,7 @@ module _ (beliefs : List Literal) (height : ℕ) (env : Env) (b : Branch) where
         go : (k p : Bool) → EnvIf (cond k (cond p (some env) none) (ask beliefs (b .literal) env))
         go true true = e
         go true false = tt
-        go false p = ask-env beliefs ground (b .literal) env e
+        go false p = ask-env-if beliefs ground (b .literal) env e
 
     pursue-ok : isGoalKind (b .kind) ≡ true
         → TryOk (pursue (answerTo (b .kind) beliefs env (b .literal)) (isBarred (b .kind) beliefs height (instantiate env (b .literal))) (instantiate env (b .literal)))

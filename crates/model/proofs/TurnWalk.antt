@@ -25,7 +25,7 @@ use Rattle.model.specs.declared.Instance.{Instance}
 use Rattle.model.specs.declared.Answer.{Answer}
 use Rattle.model.specs.declared.Answer.the-variants.{Idle, Succeeded, Failed}
 use Rattle.model.specs.State.{mostChanges, Intention, AgentState, Call, report, cycle, outcome}
-use Rattle.model.specs.Instance.{isWaiting, isSuspended, planOf, pastGoal}
+use Rattle.model.specs.Instance.{isWaiting, isSuspended, planOf, pastBranch}
 use Rattle.model.specs.Live.{isOf, eventOn, live, isReady}
 use Rattle.model.specs.Changes.{areEffective}
 use Rattle.model.specs.Try
@@ -37,7 +37,7 @@ use Rattle.model.specs.Cycle.{nextEvent, nextStack, choiceFor, cycleBy, 
 use Rattle.model.specs.Calls.{act, isRefusalFor}
 use Rattle.model.specs.Formed.{Acceptable, Formed, WellFormed}
 use Rattle.model.proofs.OriginLaws.{origin-equal}
-use Rattle.model.proofs.SolutionLaws.{choose-apt}
+use Rattle.situation.proofs.ChosenLaws.{choose-apt}
 use Rattle.model.proofs.ChangeLaws.{effects-kept, effects-do, effects-few}
 use Rattle.model.proofs.InstanceLaws.{active-awake, Branching, MoveOk, move-ok}
 use Rattle.model.proofs.TryLaws.{TryOk, attempt-ok}
@@ -161,7 +161,7 @@ module _ (library : Library) (r : Acceptable library) (s : AgentState) (w : Well
       succeeded-step : (e : Event) (q : List Event) (n : ℕ) (t : Instance) (below : List Instance) (ks : List Intention)
           → Formed library (s .beliefs) (s .queue) (stack n t below ∷ ks) (s .taken) (s .made)
           → isSuspended (t .status) ≡ false → eventOn n below ≡ e .origin
-          → Step library (s .taken) (s .made) cycle (e ∷ q) (stack n t below ∷ ks) (Succeeded (t .id)) (s .taken) (s .made) q (popped n (pastGoal library) below ++ ks)
+          → Step library (s .taken) (s .made) cycle (e ∷ q) (stack n t below ∷ ks) (Succeeded (t .id)) (s .taken) (s .made) q (popped n (pastBranch library) below ++ ks)
       unfolding popped
       succeeded-step e q n t [] ks i p g = Step.succeeded-bottom p g
       succeeded-step e q n t (c ∷ below) ks i p g = Step.succeeded-above p g (bit-every (isSuspended (c .status)) (omega (arith, first-stacked i .asleep)))
@@ -177,7 +177,7 @@ module _ (library : Library) (r : Acceptable library) (s : AgentState) (w : Well
       unfolding succeed closeEvent planOf
       succeed-moved =
           let (e, p, h) = position-taken (isOf (servedBy (k .it))) (s .queue) queued in
-          ended (Succeeded (k .it .top .id)) (planOf library (k .it .top) .success) (r .success (k .it .top .plan) (first-sound formed-stack .plan)) _ _ _ (pastGoal library) h (like-refl _)
+          ended (Succeeded (k .it .top .id)) (planOf library (k .it .top) .success) (r .success (k .it .top .plan) (first-sound formed-stack .plan)) _ _ _ (pastBranch library) h (like-refl _)
           (succeeded-step e _ (k .it .external) (k .it .top) (k .it .below) others formed-stack a (origin-equal (servedBy (k .it)) (e .origin) p))
 
       -- ---- Its turn

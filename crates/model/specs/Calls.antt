@@ -51,6 +51,22 @@ refusalIn (Succeeded i) = 0
 refusalIn (Failed i) = 0
 refusalIn (Refused number) = number
 
+-- the answer is a refusal
+abbrev pub isRefusal : Answer → Bool
+isRefusal (Taken n) = false
+isRefusal Idle = false
+isRefusal (Dropped n failures) = false
+isRefusal (Unmet i s b failures) = false
+isRefusal (MadeExternal i plan n) = false
+isRefusal (MadeGoal i plan poster) = false
+isRefusal (Stepped i s b next) = false
+isRefusal (Missed i s b) = false
+isRefusal (Done i s b literal) = false
+isRefusal (Posted i s b) = false
+isRefusal (Succeeded i) = false
+isRefusal (Failed i) = false
+isRefusal (Refused number) = true
+
 -- what a call on a well-formed state can be refused with, and 0
 unfoldable pub isRefusalFor : Call → ℕ → Bool
 isRefusalFor (report kind literal) number = any (eqb number) (0 ∷ 5 ∷ 9 ∷ 7 ∷ 6 ∷ [])

@@ -64,7 +64,8 @@ pub record Accounted (h : History) (s : AgentState) : Type 0 where
   -- "Instances made = succeeded + failed + live", one by one, each in one place, once
   pub instances : length (h .made) ≡ length (h .succeeded) + (length (h .failed) + length (live (s .stacks)))
   pub instance-placed : (id : ℕ)
-      → count (isMade id) (h .made) ≡ count (eqb id) (h .succeeded) + (count (eqb id) (h .failed) + count (isNamed id) (live (s .stacks)))
+      → count (isMade id) (h .made)
+      ≡ count (eqb id) (h .succeeded) + (count (eqb id) (h .failed) + count (isNamed id) (live (s .stacks)))
   pub instance-once : (id : ℕ) → count (isMade id) (h .made) ≤ 1
   -- "Events taken + goals posted = events closed + events queued", one by one, each in one place, once, told apart by origin
   pub events : length (h .taken) + length (h .posted) ≡ length (h .closed) + length (s .queue)

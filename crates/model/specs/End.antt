@@ -14,7 +14,7 @@ use Rattle.model.specs.declared.Origin.{Origin}
 use Rattle.model.specs.declared.Answer.{Answer}
 use Rattle.model.specs.declared.Answer.the-variants.{Succeeded, Failed}
 use Rattle.model.specs.State.{Intention, AgentState, Reply, reply, after}
-use Rattle.model.specs.Instance.{planOf, pastGoal}
+use Rattle.model.specs.Instance.{planOf, pastBranch}
 use Rattle.model.specs.Live.{isOf, eventOn}
 use Rattle.model.specs.Changes.{effects}
 use Rattle.model.specs.Try.{lastInTurn}
@@ -54,7 +54,7 @@ endTop s stack answer actions queue change =
 unfoldable pub succeed : Library → AgentState → Placed Intention → Reply
 succeed library s stack =
     let x = stack .it .top in
-    endTop s stack (Succeeded (x .id)) (planOf library x .success) (closeEvent (servedBy (stack .it)) (s .queue)) (pastGoal library)
+    endTop s stack (Succeeded (x .id)) (planOf library x .success) (closeEvent (servedBy (stack .it)) (s .queue)) (pastBranch library)
 
 -- failure runs the failure list, pops, adds the plan to the event's failed set; a poster below stays suspended
 unfoldable pub fail : Library → AgentState → Placed Intention → Reply

@@ -68,13 +68,10 @@ tryNext status x = moved x (x .env) (x .state) (x .tried + 1) status
 abbrev pub awake : Instance → Instance
 awake x = moved x (x .env) (x .state) (x .tried) Active
 
--- a poster steps past its goal (document 01, "a poster below steps past its goal"; dMARS 8.5, AchievePlan)
-unfoldable pub pastGoal : Library → Instance → Instance
-pastGoal library x = stepTo (branchOf library x .next) (x .env) x
-
--- a waiting instance steps past its action (document 01, "Outcome"; dMARS 8.4.1, BranchExtActionSucceed)
-unfoldable pub pastAction : Library → Instance → Instance
-pastAction library x = stepTo (branchOf library x .next) (x .env) x
+-- it steps past its branch: a poster past its goal, a waiting instance past its action
+-- (document 01, "a poster below steps past its goal", "Outcome"; dMARS 8.5, AchievePlan; 8.4.1, BranchExtActionSucceed)
+unfoldable pub pastBranch : Library → Instance → Instance
+pastBranch library x = stepTo (branchOf library x .next) (x .env) x
 
 -- ---- Kinds of branches: 0 add, 1 remove, 2 external action, 3 achieve, 4 query
 

@@ -11,7 +11,7 @@ use Rattle.library.specs.Plan.{Library}
 use Rattle.model.specs.declared.Instance.{Instance}
 use Rattle.model.specs.declared.Answer.the-variants.{Stepped, Missed}
 use Rattle.model.specs.State.{Intention, AgentState, Reply, reply, refuse, after}
-use Rattle.model.specs.Instance.{isWaiting, lastTried, awake, pastAction}
+use Rattle.model.specs.Instance.{isWaiting, lastTried, awake, pastBranch}
 use Rattle.model.specs.Try.{withTop}
 
 -- the top has this id and waits: who waits is the top of its stack
@@ -27,7 +27,7 @@ unfoldable pub outcomeBy : Library → AgentState → Bool → Option (Placed In
 outcomeBy library s worked none = refuse 8 s
 outcomeBy library s true (some stack) =
     let x = stack .it .top in
-    reply (Stepped (x .id) (x .state) (lastTried x) (pastAction library x .state)) [] (inTurn s stack (pastAction library x))
+    reply (Stepped (x .id) (x .state) (lastTried x) (pastBranch library x .state)) [] (inTurn s stack (pastBranch library x))
 outcomeBy library s false (some stack) =
     let x = stack .it .top in
     reply (Missed (x .id) (x .state) (lastTried x)) [] (inTurn s stack (awake x))

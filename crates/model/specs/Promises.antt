@@ -2,7 +2,7 @@
 -- (document 00, demand 1; document 01, "The three calls" and "Who may cause which refusal").
 use Prim.Native.Nat.{_≤_}
 use mathlib.Core.Path.{_≡_}
-use mathlib.Core.Bool.{Bool, true, false, not}
+use mathlib.Core.Bool.{Bool, true, not}
 use lib.Dec.{eqb}
 use lib.ListN.{length}
 use Rattle.belief.specs.Beliefs.{replay}
@@ -10,7 +10,7 @@ use Rattle.library.specs.Plan.{Library}
 use Rattle.model.specs.State.{mostChanges, AgentState, Call, Reply}
 use Rattle.model.specs.Changes.{areEffective}
 use Rattle.model.specs.WellFormed.{isWellFormed}
-use Rattle.model.specs.Calls.{refusalIn, isRefusalFor}
+use Rattle.model.specs.Calls.{refusalIn, isRefusal, isRefusalFor}
 use Rattle.model.specs.Run.{Entry}
 
 pub record Promises (library : Library) (s : AgentState) (c : Call) (r : Reply) : Type 0 where
@@ -25,7 +25,7 @@ pub record Promises (library : Library) (s : AgentState) (c : Call) (r : Reply) 
 
 -- a refusal leaves the state as it was
 abbrev pub Unchanged : AgentState → Reply → Type 0
-Unchanged s r = eqb (refusalIn (r .result .answer)) 0 ≡ false → r .state ≡ s
+Unchanged s r = isRefusal (r .result .answer) ≡ true → r .state ≡ s
 
 -- the call was not refused with 10
 abbrev pub isNotTen : Entry → Bool

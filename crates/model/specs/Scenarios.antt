@@ -77,7 +77,8 @@ twoAdds =
 abbrev turns : Scenario
 turns =
     fromLoaded (record { beliefs = []; plans = twoAdds ∷ [] })
-    (report 2 (lit 1 5) ∷ report 2 (lit 1 6) ∷ cycle ∷ cycle ∷ cycle ∷ cycle ∷ cycle ∷ cycle ∷ cycle ∷ cycle ∷ cycle ∷ [])
+    (report 2 (lit 1 5) ∷ report 2 (lit 1 6)
+    ∷ cycle ∷ cycle ∷ cycle ∷ cycle ∷ cycle ∷ cycle ∷ cycle ∷ cycle ∷ cycle ∷ [])
     (plain (Taken 1) ∷ plain (Taken 2) ∷ plain (MadeExternal 1 0 1) ∷ plain (MadeExternal 2 0 2)
     ∷ adding (Stepped 1 0 0 1) (lit 7 5) ∷ adding (Stepped 2 0 0 1) (lit 7 6)
     ∷ adding (Stepped 1 1 0 2) (lit 8 5) ∷ adding (Stepped 2 1 0 2) (lit 8 6)
@@ -114,7 +115,15 @@ firstWay =
 -- achieve +2 V0, with a maintenance that never holds
 abbrev secondWay : Plan
 secondWay =
-    record { kind = 3; trigger = lit 2 V0; context = always; maintenance = []; success = []; failure = action 0 6 ∷ []; states = [] ∷ [] }
+    record {
+      kind = 3;
+      trigger = lit 2 V0;
+      context = always;
+      maintenance = [];
+      success = [];
+      failure = action 0 6 ∷ [];
+      states = [] ∷ [];
+    }
 
 abbrev shop : Library
 shop = record { beliefs = lit 4 5 ∷ []; plans = poster ∷ firstWay ∷ secondWay ∷ [] }
@@ -176,7 +185,8 @@ kinds =
 abbrev branches : Scenario
 branches =
     fromLoaded (record { beliefs = lit 4 7 ∷ lit 32773 5 ∷ lit 6 5 ∷ []; plans = kinds ∷ [] })
-    (report 2 (lit 1 5) ∷ cycle ∷ cycle ∷ cycle ∷ cycle ∷ cycle ∷ cycle ∷ cycle ∷ cycle ∷ cycle ∷ cycle ∷ outcome 1 true ∷ cycle ∷ cycle ∷ [])
+    (report 2 (lit 1 5) ∷ cycle ∷ cycle ∷ cycle ∷ cycle ∷ cycle ∷ cycle ∷ cycle ∷ cycle ∷ cycle ∷ cycle
+    ∷ outcome 1 true ∷ cycle ∷ cycle ∷ [])
     (plain (Taken 1) ∷ plain (MadeExternal 1 0 1)
     ∷ plain (Missed 1 0 0) ∷ plain (Missed 1 0 1) ∷ plain (Missed 1 0 2) ∷ plain (Stepped 1 0 3 1)
     ∷ plain (Missed 1 1 0) ∷ plain (Missed 1 1 1) ∷ plain (Stepped 1 1 2 2)
@@ -201,7 +211,8 @@ actsFirst =
 abbrev outcomes : Scenario
 outcomes =
     fromLoaded (record { beliefs = []; plans = actsFirst ∷ [] })
-    (report 2 (lit 1 5) ∷ report 2 (lit 1 6) ∷ cycle ∷ cycle ∷ cycle ∷ cycle ∷ outcome 2 true ∷ outcome 1 true ∷ cycle ∷ cycle ∷ [])
+    (report 2 (lit 1 5) ∷ report 2 (lit 1 6) ∷ cycle ∷ cycle ∷ cycle ∷ cycle
+    ∷ outcome 2 true ∷ outcome 1 true ∷ cycle ∷ cycle ∷ [])
     (plain (Taken 1) ∷ plain (Taken 2) ∷ plain (MadeExternal 1 0 1) ∷ plain (MadeExternal 2 0 2)
     ∷ plain (Done 1 0 0 (lit 9 5)) ∷ plain (Done 2 0 0 (lit 9 6)) ∷ plain (Stepped 2 0 0 1) ∷ plain (Stepped 1 0 0 1)
     ∷ adding (Stepped 1 1 0 2) (lit 7 5) ∷ adding (Stepped 2 1 0 2) (lit 7 6) ∷ [])
@@ -303,7 +314,8 @@ abbrev full : Scenario
 full =
     fromLoaded (record { beliefs = beliefsOf 64; plans = overfills ∷ [] })
     (report 2 (lit 1 5) ∷ cycle ∷ cycle ∷ cycle ∷ cycle ∷ [])
-    (plain (Taken 1) ∷ plain (MadeExternal 1 0 1) ∷ plain (Stepped 1 0 0 1) ∷ plain (Missed 1 1 0) ∷ removing (Failed 1) (lit 7 5) ∷ [])
+    (plain (Taken 1) ∷ plain (MadeExternal 1 0 1) ∷ plain (Stepped 1 0 0 1) ∷ plain (Missed 1 1 0)
+    ∷ removing (Failed 1) (lit 7 5) ∷ [])
 
 -- ---- A state that is not well formed: 10 comes before every other refusal
 

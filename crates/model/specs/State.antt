@@ -1,6 +1,6 @@
 -- The agent's state as lists (document 01, "State"; dMARS 7.1, Intention; 8.1, dMARSAgentState), its calls and what they give.
 -- Departs from dMARS: queue and stacks have an order and a limit; served events stay in the queue.
-use Prim.Native.Nat.{ℕ}
+use Prim.Native.Nat.{ℕ, min}
 use mathlib.Core.Bool.{Bool}
 use mathlib.Core.List.{List, []}
 use lib.ListN.{take}
@@ -76,8 +76,8 @@ pub record Reply : Type 0 where
   pub state : AgentState
 
 -- a result as the code hands it back: the changes are the first `count` of the array
-abbrev pub resultOf : Answered → Result
-resultOf answered = record { answer = answered .answer; changes = take (answered .count) (answered .changes) }
+abbrev pub viewResult : Answered → Result
+viewResult answered = record { answer = answered .answer; changes = take (min (answered .count) mostChanges) (answered .changes) }
 
 -- an answer with its changes, and the state after it
 abbrev pub reply : Answer → List Change → AgentState → Reply
@@ -86,6 +86,14 @@ reply answer changes s = record { result = record { answer = answer; changes = c
 -- a refusal leaves the state as it was
 abbrev pub refuse : ℕ → AgentState → Reply
 refuse number s = reply (Refused number) [] s
+
+-- the state with another queue
+abbrev pub requeued : AgentState → List Event → AgentState
+requeued s queue = record { beliefs = s .beliefs; queue = queue; stacks = s .stacks; taken = s .taken; made = s .made }
+
+-- the state with other stacks
+abbrev pub restacked : AgentState → List Intention → AgentState
+restacked s stacks = record { beliefs = s .beliefs; queue = s .queue; stacks = stacks; taken = s .taken; made = s .made }
 
 -- the state after belief changes, with another queue and other stacks
 abbrev pub after : AgentState → List Change → List Event → List Intention → AgentState

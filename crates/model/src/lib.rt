@@ -6,6 +6,12 @@ use literal::Literal;
 // The number of an external event or of an instance, from 1 on.
 pub type Number = u16;
 
+// The largest of them.
+pub const MOST_NUMBER: Number = 65535;
+
+// At most this many external events are queued.
+pub const MOST_EXTERNAL: usize = 32;
+
 // How many belief changes one call can make: as many as a success or failure list has actions.
 pub const MOST_CHANGES: usize = 4;
 
@@ -18,6 +24,14 @@ pub enum Origin {
         branch: u16,
     },
 }
+
+// The kind of an event that was told.
+pub const TOLD: u16 = 2;
+
+// Kinds of branches: below ACTION they change a belief, above it they pursue a goal.
+pub const ACTION: u16 = 2;
+
+pub const ACHIEVE: u16 = 3;
 
 // An event: kind 0 belief added, 1 belief removed, 2 told, 3 achieve, 4 query; the plans that failed for it are the bits of `failed`.
 pub struct Event {

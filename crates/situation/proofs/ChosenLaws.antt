@@ -8,7 +8,7 @@ use mathlib.Core.Option.{Option, none, some}
 use mathlib.Core.List.{List, [], _∷_}
 use lib.ListN.{length, getD}
 use lib.Dec.{eqb}
-use borrow.Author.Tests.{eqb-true, eqb-false}
+use borrow.Author.Tests.{eqb-true, eqb-false, eq-eqb}
 use Rattle.lists.specs.Search.{all}
 use Rattle.lists.proofs.BoolLaws.{by-cases}
 use Rattle.lists.proofs.OptionLaws.{some-equal, none-some}
@@ -154,3 +154,32 @@ module _ (beliefs : List Literal) (kind : ℕ) (literal : Literal) (failed : ℕ
     chosen-env beliefs-ground ground =
         let (start, p, q) = chosen-start in
         first-env beliefs beliefs-ground (plan .context) start env (match-env (plan .trigger) literal emptyEnv start p ground empty-env) q
+
+-- ---- What a chosen plan is apt for
+
+-- a plan of the list, not failed, of the event's kind, with an environment to start from
+pub record Apt (kind failed : ℕ) (plans : List Plan) (chosen : Chosen) : Type 0 where
+  pub unfailed : has failed (chosen .plan) ≡ false
+  pub there : chosen .plan < length plans
+  pub kind-agrees : eqb (getD plans (chosen .plan) noPlan .kind) kind ≡ true
+  pub env : isEnv (chosen .env) ≡ true
+
+abbrev pub AptIf : ℕ → ℕ → List Plan → Option Chosen → Type 0
+AptIf kind failed plans none = Unit {0}
+AptIf kind failed plans (some chosen) = Apt kind failed plans chosen
+
+pub choose-apt : (beliefs : List Literal) → all isGround beliefs ≡ true → (kind : ℕ) (literal : Literal) (failed : ℕ) (plans : List Plan)
+    → isGround literal ≡ true → AptIf kind failed plans (choose beliefs kind literal failed plans)
+choose-apt beliefs ground kind literal failed plans told = go (choose beliefs kind literal failed plans) refl
+  where
+    go : (o : Option Chosen) → choose beliefs kind literal failed plans ≡ o → AptIf kind failed plans o
+    go none e = tt
+    go (some chosen) e =
+        let first = choose-first beliefs kind literal failed plans chosen e in
+        let plan = getD plans (chosen .plan) noPlan in
+        record {
+          unfailed = chosen-fresh beliefs kind literal failed (chosen .plan) plan (chosen .env) (first .solved);
+          there = first .exists;
+          kind-agrees = eq-eqb (plan .kind) kind (chosen-kind beliefs kind literal failed (chosen .plan) plan (chosen .env) (first .solved));
+          env = chosen-env beliefs kind literal failed (chosen .plan) plan (chosen .env) (first .solved) ground told;
+        }

@@ -76,6 +76,11 @@ module _ (test : Env → Bool) (kept : (l belief : Literal) (env next : Env) →
 
 -- ---- The rule for environments
 
+-- an environment, where there is one
+abbrev pub EnvIf : Option Env → Type 0
+EnvIf none = Unit {0}
+EnvIf (some env) = isEnv env ≡ true
+
 module _ (beliefs : List Literal) (ground : all isGround beliefs ≡ true) where
   env-kept : (l belief : Literal) (env next : Env) → isGround belief ≡ true → matchLiteral l belief env ≡ some next → isEnv env ≡ true → isEnv next ≡ true
   env-kept l belief env next g e h = match-env l belief env next e g h
@@ -88,6 +93,13 @@ module _ (beliefs : List Literal) (ground : all isGround beliefs ≡ true) where
 
   pub ask-env : (l : Literal) (env next : Env) → isEnv env ≡ true → ask beliefs l env ≡ some next → isEnv next ≡ true
   ask-env = ask-passes isEnv env-kept beliefs ground
+
+  pub ask-env-if : (l : Literal) (env : Env) → isEnv env ≡ true → EnvIf (ask beliefs l env)
+  ask-env-if l env h = go (ask beliefs l env) refl
+    where
+      go : (o : Option Env) → ask beliefs l env ≡ o → EnvIf o
+      go none e = tt
+      go (some next) e = ask-env l env next h e
 
 -- ---- Asking with a literal that is ground under the environment
 

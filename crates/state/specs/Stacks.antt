@@ -36,7 +36,15 @@ underTop stack = getD (stack .below) (depthOf stack - 1) noInstance
 -- the state with other stacks
 abbrev pub withStacks : State → List Stack → ℕ → State
 withStacks s stacks stacked =
-    record { beliefs = s .beliefs; queue = s .queue; queued = s .queued; stacks = stacks; stacked = stacked; taken = s .taken; made = s .made }
+    record {
+      beliefs = s .beliefs;
+      queue = s .queue;
+      queued = s .queued;
+      stacks = stacks;
+      stacked = stacked;
+      taken = s .taken;
+      made = s .made;
+    }
 
 -- one stack more, last in turn; nothing changes where there is no room
 unfoldable pub openLast : State → Stack → State

@@ -9,13 +9,11 @@ use Rattle.belief.specs.Beliefs.{mostBeliefs, view}
 use Rattle.model.specs.declared.Event.{Event}
 use Rattle.model.specs.declared.Instance.{Instance}
 use Rattle.model.specs.declared.Status.the-variants.{Active}
-use Rattle.model.specs.State.{mostStacks, Intention, AgentState}
+use Rattle.model.specs.State.{mostStacks, mostQueued, Intention, AgentState}
 use Rattle.state.specs.declared.Stack.{Stack}
 use Rattle.state.specs.declared.State.{State}
 
-abbrev pub mostQueued : ℕ
-mostQueued = 88
-
+-- the most instances below the top of a stack
 abbrev pub mostBelow : ℕ
 mostBelow = 7
 

@@ -24,7 +24,8 @@ pub struct Stack {
     pub external: Number,
 }
 
-// The first `queued` events are the queue, the first `stacked` stacks the stacks in turn order; places past a count are no part of the state.
+// The first `queued` events are the queue, the first `stacked` stacks the stacks in turn order;
+// places past a count are no part of the state.
 pub struct State {
     pub beliefs: Beliefs,
     pub queue: [Event; MOST_QUEUED],

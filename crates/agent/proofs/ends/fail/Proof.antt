@@ -14,7 +14,7 @@ use Rattle.model.specs.Instance.{planOf}
 use Rattle.model.specs.End.{servedBy, markEvent, popped, endTop, fail}
 use Rattle.state.specs.View.{viewStack, viewQueue, viewState}
 use Rattle.agent.specs.Altered.{Alters}
-use Rattle.agent.specs.Turnable.{requeued}
+use Rattle.model.specs.State.{requeued}
 use Rattle.agent.proofs.AlteredLaws.{list-short}
 use Rattle.agent.proofs.CountLaws.{counts-parts}
 use Rattle.agent.proofs.TurnLaws.{replies-as, ended-after, plan-read}

@@ -8,7 +8,7 @@ use mathlib.Core.List.{[]}
 use Rattle.library.specs.declared.Branch.{Branch}
 use Rattle.library.specs.Plan.{noBranch}
 use Rattle.library.specs.Layout.{planOf, libraryOf}
-use Rattle.model.specs.Instance.{branchOf, stepTo, pastGoal}
+use Rattle.model.specs.Instance.{branchOf, stepTo, pastBranch}
 use Rattle.agent.proofs.TurnLaws.{branch-read}
 use Rattle.agent.proofs.ends.past_goal.Statement.{statement}
 use Rattle.agent.proofs.ends.past_goal.Tie as tie
@@ -32,7 +32,7 @@ stepped-to-requires : tie.Need-stepped-to-requires
 stepped-to-requires c κs = search needs
 
 returns : tie.Need-returns
-unfolding pastGoal
+unfolding pastBranch
 returns c =
     let a = (c .before .before .before .before .before .before .before .args) in
     let bytes = now (a .library) in

@@ -6,7 +6,7 @@ use denote.Ref.{now}
 use mathlib.Core.Path.{_≡_, ap, sym, _∙_}
 use mathlib.Core.List.{List}
 use Rattle.library.specs.Layout.{libraryOf}
-use Rattle.model.specs.Instance.{pastGoal}
+use Rattle.model.specs.Instance.{pastBranch}
 use Rattle.model.specs.State.{Intention}
 use Rattle.state.specs.View.{depthOf, viewState}
 use Rattle.state.specs.Stacks.{pop}
@@ -27,7 +27,7 @@ returns c =
     let a = (c .before .before .before .before .args) in
     let bottom : depthOf (a .stack) ≡ 0 = omega (arith, (c .before .before .depth-of) .ensures, (c .before .if1)) in
     replies-as (ap (λ (ks : List Intention). ended (viewState (a .s)) (a .place) ks (a .answer) (a .altered))
-    (sym (pop-none (a .stack) (pastGoal (libraryOf (now (a .library)))) bottom)))
+    (sym (pop-none (a .stack) (pastBranch (libraryOf (now (a .library)))) bottom)))
     ((c .emptied) .ensures)
 
 under-top-requires : tie.Need-under-top-requires
@@ -49,7 +49,7 @@ returns-2 : tie.Need-returns-2
 returns-2 c =
     let a = (c .before .before .before .before .before .before .before .args) in
     let above : 0 < depthOf (a .stack) = omega (arith, (c .before .before .before .before .before .depth-of) .ensures, (c .before .before .before .before .if1)) in
-    let change = pastGoal (libraryOf (now (a .library))) in
+    let change = pastBranch (libraryOf (now (a .library))) in
     replies-as (ap (λ (ks : List Intention). ended (viewState (a .s)) (a .place) ks (a .answer) (a .altered))
     (pops (a .stack) ((c .before .popped) .result) change ((c .before .before .past-goal) .result) above ((c .before .popped) .ensures) ((c .before .before .past-goal) .ensures ∙ ap change ((c .before .before .before .under-top) .ensures))))
     ((c .turned) .ensures)

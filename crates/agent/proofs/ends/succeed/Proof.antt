@@ -9,11 +9,11 @@ use Rattle.library.proofs.Accepted.{plan-ok}
 use Rattle.model.specs.Changes.{effects}
 use mathlib.Core.Bool.{true}
 use Rattle.model.specs.declared.Answer.the-variants.{Succeeded}
-use Rattle.model.specs.Instance.{planOf, pastGoal}
+use Rattle.model.specs.Instance.{planOf, pastBranch}
 use Rattle.model.specs.End.{servedBy, closeEvent, popped, endTop, succeed}
 use Rattle.state.specs.View.{viewStack, viewQueue, viewState}
 use Rattle.agent.specs.Altered.{Alters}
-use Rattle.agent.specs.Turnable.{requeued}
+use Rattle.model.specs.State.{requeued}
 use Rattle.agent.proofs.AlteredLaws.{list-short}
 use Rattle.agent.proofs.CountLaws.{counts-parts}
 use Rattle.agent.proofs.TurnLaws.{replies-as, ended-after, plan-read}
@@ -49,7 +49,7 @@ returns c =
     let queue = closeEvent (servedBy (viewStack (a .stack))) (viewQueue (a .s)) in
     let alters : Alters (a .s .beliefs) (effects (view (a .s .beliefs)) (x .env) actions) ((c .before .before .before .list-run) .result) = rw (plan-read bytes x ((c .before .before .before .before .before .before .before .before .before .pre) .plan)) ((c .before .before .before .list-run) .ensures) in
     let shown : viewState ((c .before .with-closed) .result) ≡ requeued (viewState (a .s)) queue = rw ((c .before .before .served-by) .ensures) at ((c .before .with-closed) .ensures .shown) in
-    replies-as (ended-after (a .s) ((c .before .with-closed) .result) (a .place) (a .stack) (popped (a .stack .external) (pastGoal (libraryOf bytes)) (viewStack (a .stack) .below)) (Succeeded (x .id))
+    replies-as (ended-after (a .s) ((c .before .with-closed) .result) (a .place) (a .stack) (popped (a .stack .external) (pastBranch (libraryOf bytes)) (viewStack (a .stack) .below)) (Succeeded (x .id))
     (effects (view (a .s .beliefs)) (x .env) actions) queue ((c .before .before .before .list-run) .result) alters shown)
     ((c .raised) .ensures)
 

@@ -1,7 +1,7 @@
 -- `agent::outcome::past_action` meets its contract: the branch read from the bytes is the instance's.
 use borrow.Author.Needs.{needs}
 use mathlib.Core.Path.{ap}
-use Rattle.model.specs.Instance.{pastAction, stepTo}
+use Rattle.model.specs.Instance.{pastBranch, stepTo}
 use Rattle.library.specs.declared.Branch.{Branch}
 use Rattle.agent.proofs.OutcomeLaws.{past-is}
 use Rattle.agent.proofs.outcome.past_action.Statement.{statement}
@@ -23,7 +23,7 @@ branch-requires : tie.Need-branch-requires
 branch-requires c κs = search needs
 
 returns : tie.Need-returns
-unfolding pastAction
+unfolding pastBranch
 returns c =
     let x = (c .before .before .before .before .before .before .args) .x in
     let e = past-is ((c .before .before .before .before .before .before .args) .library .now) x ((c .before .before .before .before .last-tried) .result) ((c .before .branch) .result) ((c .before .before .before .before .before .before .pre)) ((c .before .before .before .before .last-tried) .ensures) ((c .before .branch) .ensures) in

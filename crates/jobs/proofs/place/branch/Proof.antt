@@ -7,7 +7,7 @@ use lib.ListN.{getD}
 use Rattle.library.specs.Plan.{Plan, noBranch}
 use Rattle.library.specs.Layout.{planOf as planNumbered}
 use Rattle.model.specs.Instance.{branchesOf, branchOf}
-use Rattle.jobs.proofs.PlaceLaws.{plan-there, plan-past}
+use Rattle.jobs.proofs.PlaceLaws.{plan-there, plan-none}
 use borrow.Author.Needs.{needs}
 use Rattle.jobs.proofs.place.branch.Statement.{statement}
 use Rattle.jobs.proofs.place.branch.Tie as tie
@@ -20,7 +20,7 @@ no-branch-requires c κs = search needs
 
 returns : tie.Need-returns
 unfolding branchesOf branchOf
-returns c = (c .no-branch) .ensures ∙ sym (ap (λ (plan : Plan). getD (getD (plan .states) ((c .before .before .before .before .args) .x .state) []) ((c .before .before .before .before .args) .x .tried - 1) noBranch) (plan-past (now ((c .before .before .before .before .args) .library)) ((c .before .before .before .before .args) .x) _ ((c .before .before .plan-count) .ensures) ((c .before .if1) .taken)))
+returns c = (c .no-branch) .ensures ∙ sym (ap (λ (plan : Plan). getD (getD (plan .states) ((c .before .before .before .before .args) .x .state) []) ((c .before .before .before .before .args) .x .tried - 1) noBranch) (plan-none (now ((c .before .before .before .before .args) .library)) ((c .before .before .before .before .args) .x) _ ((c .before .before .plan-count) .ensures) ((c .before .if1) .taken)))
 
 last-tried-requires : tie.Need-last-tried-requires
 last-tried-requires c κs = search needs

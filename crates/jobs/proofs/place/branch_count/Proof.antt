@@ -5,7 +5,7 @@ use denote.Ref.{now}
 use lib.ListN.{length, getD}
 use Rattle.library.specs.Plan.{Plan}
 use Rattle.model.specs.Instance.{branchesOf}
-use Rattle.jobs.proofs.PlaceLaws.{plan-there, plan-past}
+use Rattle.jobs.proofs.PlaceLaws.{plan-there, plan-none}
 use borrow.Author.Needs.{needs}
 use Rattle.jobs.proofs.place.branch_count.Statement.{statement}
 use Rattle.jobs.proofs.place.branch_count.Tie as tie
@@ -15,7 +15,7 @@ plan-count-requires c κs = search needs
 
 returns : tie.Need-returns
 unfolding branchesOf
-returns c = sym (ap (λ (plan : Plan). length (getD (plan .states) ((c .before .before .before .args) .x .state) [])) (plan-past (now ((c .before .before .before .args) .library)) ((c .before .before .before .args) .x) _ ((c .before .plan-count) .ensures) ((c .if1) .taken)))
+returns c = sym (ap (λ (plan : Plan). length (getD (plan .states) ((c .before .before .before .args) .x .state) [])) (plan-none (now ((c .before .before .before .args) .library)) ((c .before .before .before .args) .x) _ ((c .before .plan-count) .ensures) ((c .if1) .taken)))
 
 cast-branch-count : tie.Need-cast-branch-count
 cast-branch-count c = search needs

@@ -3,7 +3,7 @@ use mathlib.Core.Path.{ap, sym, _∙_}
 use denote.Ref.{now}
 use lib.ListN.{length}
 use Rattle.library.specs.Plan.{Plan}
-use Rattle.jobs.proofs.PlaceLaws.{plan-there, plan-past}
+use Rattle.jobs.proofs.PlaceLaws.{plan-there, plan-none}
 use borrow.Author.Needs.{needs}
 use Rattle.jobs.proofs.place.state_count.Statement.{statement}
 use Rattle.jobs.proofs.place.state_count.Tie as tie
@@ -12,7 +12,7 @@ plan-count-requires : tie.Need-plan-count-requires
 plan-count-requires c κs = search needs
 
 returns : tie.Need-returns
-returns c = sym (ap (λ (plan : Plan). length (plan .states)) (plan-past (now ((c .before .before .before .args) .library)) ((c .before .before .before .args) .x) _ ((c .before .plan-count) .ensures) ((c .if1) .taken)))
+returns c = sym (ap (λ (plan : Plan). length (plan .states)) (plan-none (now ((c .before .before .before .args) .library)) ((c .before .before .before .args) .x) _ ((c .before .plan-count) .ensures) ((c .if1) .taken)))
 
 cast-state-count : tie.Need-cast-state-count
 cast-state-count c = search needs

@@ -2,7 +2,7 @@
 use mathlib.Core.Path.{ap, sym, _∙_}
 use denote.Ref.{now}
 use Rattle.library.specs.Plan.{Plan}
-use Rattle.jobs.proofs.PlaceLaws.{plan-there, plan-past}
+use Rattle.jobs.proofs.PlaceLaws.{plan-there, plan-none}
 use borrow.Author.Needs.{needs}
 use Rattle.jobs.proofs.place.trigger_kind.Statement.{statement}
 use Rattle.jobs.proofs.place.trigger_kind.Tie as tie
@@ -11,7 +11,7 @@ plan-count-requires : tie.Need-plan-count-requires
 plan-count-requires c κs = search needs
 
 returns : tie.Need-returns
-returns c = sym (ap (λ (plan : Plan). plan .kind) (plan-past (now ((c .before .before .before .args) .library)) ((c .before .before .before .args) .x) _ ((c .before .plan-count) .ensures) ((c .if1) .taken)))
+returns c = sym (ap (λ (plan : Plan). plan .kind) (plan-none (now ((c .before .before .before .args) .library)) ((c .before .before .before .args) .x) _ ((c .before .plan-count) .ensures) ((c .if1) .taken)))
 
 cast-trigger-kind : tie.Need-cast-trigger-kind
 cast-trigger-kind c = search needs

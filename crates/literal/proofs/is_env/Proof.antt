@@ -1,13 +1,13 @@
--- `formed::instances::is_env` meets its contract. The loop's invariant: the entries left decide as all of them do.
+-- `literal::is_env` meets its contract. The loop's invariant: the entries left decide as all of them do.
 use Prim.Native.Nat.{_-_, _≤_}
 use mathlib.Core.Path.{_≡_, refl, sym, _∙_}
 use lib.ListN.{length}
 use borrow.Author.Tests.{not-true, not-false}
-use Rattle.formed.proofs.ListLaws.{EntriesLeft, entries-next, entries-stop, entries-end, env-by-entries}
+use Rattle.literal.proofs.EntryLaws.{EntriesLeft, entries-next, entries-stop, entries-end, env-by-entries}
 use borrow.Author.Needs.{needs}
 use native.Mathlib.Omega.{arith}
-use Rattle.formed.proofs.instances.is_env.Statement.{statement}
-use Rattle.formed.proofs.instances.is_env.Tie as tie
+use Rattle.literal.proofs.is_env.Statement.{statement}
+use Rattle.literal.proofs.is_env.Tie as tie
 
 abbrev Inv-loop : tie.InvT-loop
 Inv-loop env i₀ i = (i ≤ 8) × EntriesLeft (env .terms) i
@@ -24,8 +24,11 @@ mul-term c = search needs
 element-copy-out-term : tie.Need-element-copy-out-term Inv-loop μ-loop
 element-copy-out-term c = search needs
 
-add-is-entry : tie.Need-add-is-entry Inv-loop μ-loop
-add-is-entry c = search needs
+cast-variable : tie.Need-cast-variable Inv-loop μ-loop
+cast-variable c = search needs
+
+add-variable : tie.Need-add-variable Inv-loop μ-loop
+add-variable c = search needs
 
 is-entry-requires : tie.Need-is-entry-requires Inv-loop μ-loop
 is-entry-requires c κs = search needs
@@ -66,7 +69,8 @@ is-env-spec =
     loop-holds
     mul-term
     element-copy-out-term
-    add-is-entry
+    cast-variable
+    add-variable
     is-entry-requires
     returns
     add-i
