@@ -2,7 +2,7 @@
 use Prim.Native.Nat.{ℕ, _+_}
 use native.Mathlib.Nat.{zero-add}
 use mathlib.Core.Path.{_≡_, ap, sym, _∙_}
-use mathlib.Core.Bool.{Bool, true, false}
+use mathlib.Core.Bool.{Bool, true, false, _||_}
 use lib.ListN.{length, take, drop}
 use lib.Dec.{ltb}
 use Rattle.lists.specs.Search.{any, position}
@@ -47,12 +47,7 @@ module _ (s : State) (event : Event) where
   unfolding isReady isPending
   ready-served e = rw e
 
-  module _ (e : any (serves (event .origin)) (live (viewStacks s)) ≡ false) where
-    pub ready-goal : isGoal (event .origin) ≡ true → true ≡ isReady (live (viewStacks s)) (length (viewStacks s)) event
-    unfolding isReady isPending
-    ready-goal g = rw (e, g)
-
-    pub ready-external : isGoal (event .origin) ≡ false → (n : ℕ) → n ≡ stackedOf s → length (s .stacks) ≡ 8
-        → ltb n 8 ≡ isReady (live (viewStacks s)) (length (viewStacks s)) event
-    unfolding isReady isPending
-    ready-external g n p len = rw (e, g) (ap (λ (m : ℕ). ltb m 8) (p ∙ sym (length-stacks s len)))
+  pub ready-pending : any (serves (event .origin)) (live (viewStacks s)) ≡ false → (n : ℕ) → n ≡ stackedOf s → length (s .stacks) ≡ 8
+      → (isGoal (event .origin) || ltb n 8) ≡ isReady (live (viewStacks s)) (length (viewStacks s)) event
+  unfolding isReady isPending
+  ready-pending e n p len = rw e (ap (λ (m : ℕ). isGoal (event .origin) || ltb m 8) (p ∙ sym (length-stacks s len)))

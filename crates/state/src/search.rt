@@ -1,9 +1,12 @@
 // Who serves what, and what comes next: each search answers a place, the count where there is none.
 ghost use mathlib.Core.Path.{_≡_};
+ghost use mathlib.Core.Bool.{_||_};
 ghost use Prim.Native.Nat.{_<_};
 ghost use lib.ListN.{length, take};
+ghost use lib.Dec.{ltb};
 ghost use Rattle.lists.specs.Search.{any, position};
-ghost use Rattle.model.specs.Live.{isOf, jobsOf, live, serves, isReady, isPoster};
+ghost use Rattle.model.specs.Live.{isGoal, isOf, jobsOf, live, serves, isReady, isPoster};
+ghost use Rattle.model.specs.State.{mostStacks};
 ghost use Rattle.model.specs.Turn.{isRunning};
 ghost use Rattle.model.specs.Outcome.{isAwaiting};
 ghost use Rattle.state.specs.View.{depthOf, viewStack, viewQueue, viewStacks};
@@ -14,7 +17,6 @@ use crate::State;
 use crate::origin;
 use crate::queue;
 use crate::stacks;
-use model::Event;
 use model::Number;
 use model::Origin;
 
@@ -46,48 +48,38 @@ fn is_served_by(stack: Stack, origin: Origin) -> bool
     has_posted(stack, origin)
 }
 
-// Whether an instance serves the event of this origin.
-fn is_served(s: State, origin: Origin) -> bool
-    ensures { λ r. ⌜ r ≡ any (serves origin) (live (viewStacks s)) ⌝ }
+// Whether a pending event may be taken up: an external one needs room for a new stack.
+fn has_room(origin: Origin, stacked: usize) -> bool
+    ensures { λ r. ⌜ r ≡ (isGoal origin || ltb stacked mostStacks) ⌝ }
 {
-    let n = stacks::stacked_of(s);
-    let mut i: usize = 0;
-    while i < n {
-        let stack = s.stacks[i];
-        i += 1;
-        if is_served_by(stack, origin) {
-            return true;
-        }
-    }
-    false
-}
-
-// Whether the event is pending and may be taken up.
-fn is_ready(s: State, event: Event) -> bool
-    ensures { λ r. ⌜ r ≡ isReady (live (viewStacks s)) (length (viewStacks s)) event ⌝ }
-{
-    let origin = event.origin;
-    if is_served(s, origin) {
-        return false;
-    }
     if origin::is_goal(origin) {
         return true;
     }
-    stacks::stacked_of(s) < MOST_STACKS
+    stacked < MOST_STACKS
 }
 
 // The first pending event that may be taken up.
 pub fn next_event(s: State) -> usize
     ensures { λ r. ⌜ r ≡ position (isReady (live (viewStacks s)) (length (viewStacks s))) (viewQueue s) ⌝ }
 {
-    let n = queue::queued_of(s);
+    let queued = queue::queued_of(s);
+    let stacked = stacks::stacked_of(s);
     let mut i: usize = 0;
-    while i < n {
+    'events: while i < queued {
         let event = s.queue[i];
-        if is_ready(s, event) {
-            return i;
-        }
+        let origin = event.origin;
         i += 1;
+        let mut j: usize = 0;
+        while j < stacked {
+            let stack = s.stacks[j];
+            j += 1;
+            if is_served_by(stack, origin) {
+                continue 'events;
+            }
+        }
+        if has_room(origin, stacked) {
+            return i - 1;
+        }
     }
     i
 }
