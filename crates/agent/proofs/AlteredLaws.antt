@@ -7,10 +7,10 @@ use mathlib.Core.Bool.{Bool, true, false, not, _&&_, _||_}
 use mathlib.Core.List.{List, [], _∷_, _++_, append-nil, append-assoc}
 use lib.ListN.{length, take, drop, set, getD, drop-of-length-le}
 use lib.Seq.{take-suc-set, drop-cons}
-use lib.Dec.{ltb, leb}
-use borrow.Author.Tests.{ltb-true, leb-true}
+use lib.Dec.{ltb}
+use borrow.Author.Tests.{ltb-true}
 use Rattle.lists.specs.Search.{position}
-use Rattle.lists.proofs.BoolLaws.{by-cases, and-parts}
+use Rattle.lists.proofs.BoolLaws.{by-cases}
 use Rattle.literal.specs.declared.Literal.{Literal}
 use Rattle.literal.specs.declared.Env.{Env}
 use Rattle.literal.specs.Literal.{isGround, same}
@@ -22,12 +22,11 @@ use Rattle.belief.specs.Table.{addBy, add, removeBy, remove}
 use Rattle.belief.proofs.TableSteps.{length-view}
 use Rattle.belief.proofs.BeliefLaws.{add-view, remove-view, remove-changed, replay-join}
 use Rattle.library.specs.declared.Action.{Action}
-use Rattle.library.specs.Plan.{Plan, noAction}
-use Rattle.library.specs.Rules.{atMost, situationOk, actionsOk, planOk}
+use Rattle.library.specs.Plan.{noAction}
 use Rattle.model.specs.Changes.{alters, when, effective, asChange, effects}
 use Rattle.model.specs.Try.{isPossible}
 use Rattle.agent.specs.declared.changes.Altered.{Altered}
-use Rattle.agent.specs.Altered.{changesOf, untouched, Alters, Extends, Changed, listOf}
+use Rattle.agent.specs.Altered.{changesOf, untouched, Alters, Extends, Changed}
 
 -- ---- One change
 
@@ -189,21 +188,3 @@ module _ (t u : Altered) (env : Env) (actions : List Action) (i : ℕ) (low : i 
 pub effects-done : (beliefs : List Literal) (env : Env) (actions : List Action) (i : ℕ) → length actions ≤ i → effects beliefs env (drop i actions) ≡ []
 unfolding effects
 effects-done beliefs env actions i h = ap (effects beliefs env) (drop-of-length-le actions {i = i} h)
-
--- a plan that keeps the rules has at most four actions in each list
-pub list-short : (plan : Plan) (succeeds : Bool) → planOk plan ≡ true → length (listOf succeeds plan) ≤ 4
-unfolding planOk actionsOk
-list-short plan succeeds h =
-    let kind = and-parts (leb (plan .kind) 4) _ h in
-    let context = and-parts (situationOk (plan .context)) _ (kind .1) in
-    let maintenance = and-parts (situationOk (plan .maintenance)) _ (context .1) in
-    let success = and-parts (actionsOk (plan .success)) _ (maintenance .1) in
-    let failure = and-parts (actionsOk (plan .failure)) _ (success .1) in
-    pick succeeds (short (plan .success) (success .0)) (short (plan .failure) (failure .0))
-  where
-    short : (actions : List Action) → actionsOk actions ≡ true → length actions ≤ 4
-    short actions p = leb-true (length actions) 4 (and-parts (atMost 4 actions) _ p .0)
-
-    pick : (b : Bool) → length (plan .success) ≤ 4 → length (plan .failure) ≤ 4 → length (listOf b plan) ≤ 4
-    pick true p q = p
-    pick false p q = q

@@ -24,7 +24,7 @@ use Rattle.formed.specs.Formed.{isStateFormed, isFormed}
 use Rattle.agent.specs.declared.Agent.{Agent}
 use Rattle.agent.specs.declared.Loaded.{Loaded}
 use Rattle.agent.specs.Load.{bytesOf, Loads}
-use Rattle.agent.specs.Calls.{isWellFormedAgent, viewReplied, Calls}
+use Rattle.agent.specs.Calls.{isWellFormedWith, isWellFormedAgent, viewReplied, Calls}
 use Rattle.agent.specs.Chain.{Link, Chain, start, then, entryOf, entriesOf}
 
 -- an agent that holds this library, accepted, in a well-formed state
@@ -36,7 +36,7 @@ record Held (bytes : List ℕ) (a : Agent) : Type 0 where
 
 module _ (bytes : List ℕ) (accepted : refusalOf bytes ≡ 0) where
   held-formed : (a : Agent) → Held bytes a → isWellFormedAgent a ≡ true
-  unfolding isWellFormedAgent isFormed isStateFormed
+  unfolding isWellFormedWith isFormed isStateFormed
   held-formed a h =
       let own = subst⁻¹ (λ (b : List ℕ). (eqb (refusalOf b) 0 && (countsFit (a .state) && isWellFormed (libraryOf b) (viewState (a .state)))) ≡ true) (h .bytes-are)
       (and-both (eqb (refusalOf bytes) 0) _ (eq-eqb _ 0 accepted) (and-both (countsFit (a .state)) _ (h .fit) (h .formed))) in

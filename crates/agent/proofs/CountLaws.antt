@@ -23,7 +23,7 @@ use Rattle.state.specs.declared.State.{State}
 use Rattle.state.specs.View.{mostBelow, queuedOf, stackedOf, countsFit}
 use Rattle.state.specs.Queue.{withQueue, enqueue, dequeue, putEvent}
 use Rattle.state.specs.Stacks.{withStacks, openLast, putAt, dropAt, turnLast}
-use Rattle.agent.specs.Turnable.{withTable}
+use Rattle.agent.specs.View.{changedTo}
 
 -- ---- The counts, one by one
 
@@ -60,9 +60,9 @@ module _ (s : State) (h : countsFit s ≡ true) where
 
   -- ---- The beliefs and the queue
 
-  pub counts-table : (b : Beliefs) → b .count ≤ 64 → countsFit (withTable s b) ≡ true
-  counts-table b few =
-      counts-whole (withTable s b) (record { beliefs = few; queued = counts .queued; stacked = counts .stacked; depths = counts .depths })
+  pub counts-table : (b : Beliefs) (taken : ℕ) → b .count ≤ 64 → countsFit (changedTo s b taken) ≡ true
+  counts-table b taken few =
+      counts-whole (changedTo s b taken) (record { beliefs = few; queued = counts .queued; stacked = counts .stacked; depths = counts .depths })
 
   counts-queue : (queue : List Event) (n : ℕ) → n ≤ 88 → countsFit (withQueue s queue n) ≡ true
   counts-queue queue n few =

@@ -2,15 +2,16 @@
 use Prim.Native.Nat.{ℕ, _+_, _<_, _≤_}
 use native.Mathlib.Omega.{arith}
 use mathlib.Core.Path.{_≡_, refl, ap, sym, subst, _∙_}
-use mathlib.Core.Bool.{true}
+use mathlib.Core.Bool.{Bool, true}
 use mathlib.Core.List.{List, [], _∷_, _++_}
-use lib.ListN.{length, getD, set}
+use lib.ListN.{length, set, getD}
 use borrow.Author.Tests.{lt-ltb}
+use Rattle.lists.specs.Search.{position}
 use Rattle.lists.specs.Gap.{removeAt}
+use Rattle.lists.proofs.PlaceLaws.{change-there}
 use Rattle.belief.specs.Beliefs.{replay}
 use Rattle.situation.specs.FailedSet.{sizeOf}
 use Rattle.situation.specs.Applicable.{Chosen}
-use Rattle.model.specs.declared.Answer.{Answer}
 use Rattle.model.specs.declared.Answer.the-variants.{Dropped, Unmet, MadeExternal, MadeGoal}
 use Rattle.model.specs.declared.Event.{Event}
 use Rattle.model.specs.declared.Instance.{Instance}
@@ -22,23 +23,31 @@ use Rattle.model.specs.Live.{isPoster}
 use Rattle.model.specs.Event.{newInstance, opened, pushed, make, woken, close}
 use Rattle.state.specs.declared.Stack.{Stack}
 use Rattle.state.specs.declared.State.{State}
-use Rattle.state.specs.View.{viewStack, stackedOf, viewQueue, viewStacks, viewState, countsFit}
+use Rattle.state.specs.View.{noStack, viewStack, stackedOf, viewQueue, viewStacks, viewState, countsFit}
 use Rattle.state.specs.Queue.{dequeue}
 use Rattle.state.specs.Stacks.{push, withStacks, openLast, putAt}
+use Rattle.state.proofs.ViewLaws.{length-stacks, stack-at}
+use Rattle.state.proofs.StackLaws.{put-view}
 use Rattle.state.proofs.StackSteps.{put-there}
 use Rattle.agent.specs.declared.Acted.{Acted}
-use Rattle.agent.specs.View.{viewActed, plainly}
-use Rattle.agent.specs.TakeUp.{posterPlace, HasPoster, Follows}
-use Rattle.state.specs.View.{noStack}
-use Rattle.agent.proofs.PlaceLaws.{put-change}
+use Rattle.agent.specs.View.{plainly, stackAt}
+use Rattle.agent.specs.TakeUp.{posterPlace, HasPoster}
+use Rattle.agent.specs.Gives.{Replies}
+use Rattle.agent.proofs.GivesLaws.{replies-plainly}
 use Rattle.agent.proofs.CountLaws.{counts-dequeue, counts-open, counts-put}
 use Rattle.state.proofs.StateLaws.{dequeue-state, open-state, put-frame}
 
--- ---- An answer with no changes
+-- ---- The stack at the place that a search found
 
-pub follow : (r : Acted) (s : State) (answer : Answer) (v : AgentState) → r ≡ plainly s answer → viewState s ≡ v → countsFit s ≡ true
-    → Follows r (reply answer [] v)
-follow r s answer v e p fits = record { means = ap viewActed e ∙ ap (reply answer []) p; fit = ap (λ (a : Acted). countsFit (a .state)) e ∙ fits }
+module _ (s : State) (place : ℕ) (d : Stack) (low : place < stackedOf s) where
+  -- another stack there is the model's change of the first that passes
+  put-change : (test : Intention → Bool) (change : Intention → Intention) (next : Stack) → length (s .stacks) ≡ 8
+      → place ≡ position test (viewStacks s) → viewStack next ≡ change (viewStack (getD (s .stacks) place d))
+      → viewStacks (putAt s place next) ≡ changeAt change (viewStacks s) (first test (viewStacks s))
+  put-change test change next len e p =
+      put-view s len place next
+      ∙ ap (set (viewStacks s) place) (p ∙ ap change (sym (stack-at s place d low)))
+      ∙ sym (change-there test change (viewStacks s) place (viewStack d) e (omega (arith, length-stacks s len)))
 
 -- ---- Made
 
@@ -58,21 +67,21 @@ module _ (s : State) (chosen : Chosen) (x : Instance) (stack : Stack) (next : St
     (fits : countsFit s ≡ true) (len : length (s .stacks) ≡ 8) (new : x ≡ newInstance (s .made) chosen) (shallow : stack .depth ≤ 7) where
   pub made-external : (external : ℕ) → viewStack stack ≡ opened external x → next ≡ openLast s stack
       → r ≡ plainly (numbered next (x .id)) (MadeExternal (x .id) (chosen .plan) external) → s .stacked < 8
-      → Follows r (make (viewState s) chosen (External external))
+      → Replies (make (viewState s) chosen (External external)) r
   unfolding make
   made-external external top e p room =
       let v : viewState (numbered next (x .id)) ≡ making (viewState s) (viewStacks s ++ (opened external x ∷ [])) (x .id) =
       ap (λ (w : AgentState). making w (w .stacks) (x .id)) (ap viewState e ∙ open-state s stack len room)
       ∙ ap (λ (k : Intention). making (viewState s) (viewStacks s ++ (k ∷ [])) (x .id)) top in
       let f : countsFit next ≡ true = ap countsFit e ∙ counts-open s fits len stack shallow in
-      subst (λ (y : Instance). Follows r (reply (MadeExternal (y .id) (chosen .plan) external) []
-      (making (viewState s) (viewStacks s ++ (opened external y ∷ [])) (y .id)))) new
-      (follow r (numbered next (x .id)) (MadeExternal (x .id) (chosen .plan) external) _ p v (numbered-fits next (x .id) f))
+      subst (λ (y : Instance). Replies (reply (MadeExternal (y .id) (chosen .plan) external) []
+      (making (viewState s) (viewStacks s ++ (opened external y ∷ [])) (y .id))) r) new
+      (replies-plainly r (numbered next (x .id)) (MadeExternal (x .id) (chosen .plan) external) _ p v (numbered-fits next (x .id) f))
 
   pub made-goal : (i state branch place : ℕ) → place ≡ posterPlace s (Goal i state branch) → place < stackedOf s
-      → viewStack stack ≡ pushed x (viewStack (getD (s .stacks) place noStack)) → next ≡ putAt s place stack
+      → viewStack stack ≡ pushed x (viewStack (stackAt s place)) → next ≡ putAt s place stack
       → r ≡ plainly (numbered next (x .id)) (MadeGoal (x .id) (chosen .plan) i)
-      → Follows r (make (viewState s) chosen (Goal i state branch))
+      → Replies (make (viewState s) chosen (Goal i state branch)) r
   unfolding make
   made-goal i state branch place there low top e p =
       let test = isPoster (Goal i state branch) in
@@ -80,27 +89,27 @@ module _ (s : State) (chosen : Chosen) (x : Instance) (stack : Stack) (next : St
       ap (λ (w : AgentState). making w (w .stacks) (x .id)) (ap viewState e ∙ put-frame s place stack)
       ∙ ap (λ (ks : List Intention). making (viewState s) ks (x .id)) (put-change s place noStack low test (pushed x) stack len there top) in
       let f : countsFit next ≡ true = ap countsFit e ∙ counts-put s fits len place stack shallow in
-      subst (λ (y : Instance). Follows r (reply (MadeGoal (y .id) (chosen .plan) i) []
-      (making (viewState s) (changeAt (pushed y) (viewStacks s) (first test (viewStacks s))) (y .id)))) new
-      (follow r (numbered next (x .id)) (MadeGoal (x .id) (chosen .plan) i) _ p v (numbered-fits next (x .id) f))
+      subst (λ (y : Instance). Replies (reply (MadeGoal (y .id) (chosen .plan) i) []
+      (making (viewState s) (changeAt (pushed y) (viewStacks s) (first test (viewStacks s))) (y .id))) r) new
+      (replies-plainly r (numbered next (x .id)) (MadeGoal (x .id) (chosen .plan) i) _ p v (numbered-fits next (x .id) f))
 
 -- ---- Closed
 
 module _ (s : State) (place : ℕ) (event : Event) (failures : ℕ) (next : State) (r : Acted)
     (fits : countsFit s ≡ true) (len : length (s .queue) ≡ 88) (size : failures ≡ sizeOf (event .failed)) where
   pub dropped : (external : ℕ) → next ≡ dequeue s place → r ≡ plainly next (Dropped external failures)
-      → Follows r (close (viewState s) (record { place = place; it = event }) (External external))
+      → Replies (close (viewState s) (record { place = place; it = event }) (External external)) r
   unfolding close replay
   dropped external e p =
       let v = requeued (viewState s) (removeAt place (viewQueue s)) in
-      subst (λ (n : ℕ). Follows r (reply (Dropped external n) [] v)) size
-      (follow r next (Dropped external failures) v p (ap viewState e ∙ dequeue-state s place len) (ap countsFit e ∙ counts-dequeue s fits place))
+      subst (λ (n : ℕ). Replies (reply (Dropped external n) [] v) r) size
+      (replies-plainly r next (Dropped external failures) v p (ap viewState e ∙ dequeue-state s place len) (ap countsFit e ∙ counts-dequeue s fits place))
 
   pub unmet : (i state branch poster : ℕ) (stack : Stack) (resumed : State) → length (s .stacks) ≡ 8 → stack .depth ≤ 7
       → poster ≡ posterPlace s (Goal i state branch) → poster < stackedOf s
-      → viewStack stack ≡ woken (viewStack (getD (s .stacks) poster noStack)) → resumed ≡ putAt s poster stack → next ≡ dequeue resumed place
+      → viewStack stack ≡ woken (viewStack (stackAt s poster)) → resumed ≡ putAt s poster stack → next ≡ dequeue resumed place
       → r ≡ plainly next (Unmet i state branch failures)
-      → Follows r (close (viewState s) (record { place = place; it = event }) (Goal i state branch))
+      → Replies (close (viewState s) (record { place = place; it = event }) (Goal i state branch)) r
   unfolding close replay
   unmet i state branch poster stack resumed eight shallow there low top e q p =
       let test = isPoster (Goal i state branch) in
@@ -114,12 +123,12 @@ module _ (s : State) (place : ℕ) (event : Event) (failures : ℕ) (next : Stat
       ∙ ap (λ (stacks : List Intention). requeued (restacked (viewState s) stacks) (removeAt place (viewQueue s)))
       (ap viewStacks there-is ∙ put-change s poster noStack low test woken stack eight there top) in
       let f : countsFit next ≡ true = ap countsFit from ∙ counts-dequeue w (ap countsFit there-is ∙ counts-put s fits eight poster stack shallow) place in
-      subst (λ (n : ℕ). Follows r (reply (Unmet i state branch n) [] v)) size
-      (follow r next (Unmet i state branch failures) v p view f)
+      subst (λ (n : ℕ). Replies (reply (Unmet i state branch n) [] v) r) size
+      (replies-plainly r next (Unmet i state branch failures) v p view f)
 
 -- the stack at the place that the search found has room
-pub poster-room : (s : State) (goal : Origin) (place : ℕ) → HasPoster s goal → place ≡ posterPlace s goal → getD (s .stacks) place noStack .depth < 7
-poster-room s goal place h e = subst (λ (i : ℕ). getD (s .stacks) i noStack .depth < 7) (sym e) (h .room)
+pub poster-room : (s : State) (goal : Origin) (place : ℕ) → HasPoster s goal → place ≡ posterPlace s goal → stackAt s place .depth < 7
+poster-room s goal place h e = subst (λ (i : ℕ). stackAt s i .depth < 7) (sym e) (h .room)
 
 -- with one instance more it is no deeper than there are places
 pub push-depth : (stack : Stack) (x : Instance) (r : Stack) → stack .depth < 7 → r ≡ push stack x → r .depth ≤ 7

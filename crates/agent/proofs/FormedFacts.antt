@@ -1,5 +1,5 @@
 -- What a well-formed state gives to the code: each worker's needs.
-use Prim.Native.Nat.{ℕ, zero, suc, _+_, _<_, _≤_}
+use Prim.Native.Nat.{ℕ, _+_, _<_, _≤_}
 use native.Mathlib.Omega.{arith}
 use mathlib.Core.Path.{_≡_, refl, ap, sym, subst, _∙_}
 use mathlib.Core.Bool.{Bool, true, false, cond, not, _&&_, _||_}
@@ -15,8 +15,8 @@ use Rattle.lists.specs.Counts.{count}
 use Rattle.lists.proofs.BoolLaws.{by-cases, and-parts, or-parts}
 use Rattle.lists.proofs.SearchLaws.{any-position}
 use Rattle.lists.proofs.TestCounts.{any-none, some-any}
-use Rattle.lists.proofs.LikeLaws.{Like, like-refl, like-more, like-swap, like-then}
-use Rattle.lists.proofs.PlaceLaws.{FoundIf, found, first-at}
+use Rattle.lists.proofs.LikeLaws.{Like, like-refl, like-at}
+use Rattle.lists.proofs.PlaceLaws.{passes-at}
 use Rattle.literal.specs.declared.Literal.{Literal}
 use Rattle.literal.specs.declared.Env.{Env}
 use Rattle.literal.specs.Literal.{isGround, opposite}
@@ -33,20 +33,18 @@ use Rattle.library.proofs.RuleFacts.{state-branches}
 use Rattle.library.proofs.Accepted.{keeps}
 use Rattle.model.specs.declared.Event.{Event}
 use Rattle.model.specs.State.{Intention, report, Reply, noEvent}
-use Rattle.model.specs.Live.{isGoal, eventOn, jobsOn, live, serves, isPending, isReady, isPoster, goalOf}
+use Rattle.model.specs.Live.{isGoal, live, serves, isPending, isReady, isPoster}
 use Rattle.model.specs.declared.Instance.{Instance}
 use Rattle.model.specs.Instance.{isSuspended, branchesOf}
 use Rattle.model.specs.Report.{reportRefusal, reportChanges, takeIn, reportBy, reported, newEvent}
-use Rattle.model.specs.Outcome.{isAwaiting}
 use Rattle.model.specs.Try.{missed, stepped, done, posted, isPossible, tryChange, tryAction, answerTo, isBarred, pursue, attempt}
 use Rattle.model.specs.Turn.{heightOf, isRunning}
 use Rattle.model.specs.Calls.{act}
 use Rattle.model.specs.WellFormed.{isWellFormed}
-use Rattle.model.specs.Formed.{Formed, WellFormed, Local}
+use Rattle.model.specs.Formed.{Formed, WellFormed}
 use Rattle.model.proofs.OriginLaws.{origin-same}
 use Rattle.model.proofs.WellFormedTest.{test-formed}
 use Rattle.model.proofs.FormedLaws.{reform, first-sound, first-stacked, poster-found}
-use Rattle.model.proofs.LocalLaws.{top-sound, local-popped}
 use Rattle.model.proofs.InstanceLaws.{active-awake}
 use Rattle.model.proofs.QueueBound.{queue-few, queue-room}
 use Rattle.model.proofs.CallLaws.{call-acts, call-formed}
@@ -55,23 +53,12 @@ use Rattle.state.specs.declared.Stack.{Stack}
 use Rattle.state.specs.declared.State.{State}
 use Rattle.state.specs.View.{noStack, depthOf, viewStack, queuedOf, stackedOf, viewQueue, viewStacks, viewState, countsFit}
 use Rattle.state.proofs.ViewLaws.{length-queue, length-stacks, stack-at}
-use Rattle.state.specs.Stacks.{pop, underTop}
-use Rattle.state.proofs.StackLaws.{length-down, below-view}
-use Rattle.agent.specs.Outcome.{Tells}
+use Rattle.state.proofs.StackLaws.{length-down}
 use Rattle.agent.specs.Report.{Hears}
-use Rattle.agent.specs.TakeUp.{eventAt, posterPlace, HasPoster, TakesUp}
-use Rattle.agent.specs.Turnable.{stackAt, Turnable}
+use Rattle.agent.specs.TakeUp.{posterPlace, HasPoster, TakesUp}
+use Rattle.agent.specs.Turnable.{Turnable}
+use Rattle.agent.specs.View.{eventAt, stackAt}
 use Rattle.agent.proofs.CountLaws.{counts-parts, counts-depth}
-
--- an element of a list, put first
-like-at : {A : Type 0} (xs : List A) (i : ℕ) (d : A) → i < length xs → Like xs (getD xs i d ∷ removeAt i xs)
-like-at [] i d h = absurd (omega arith)
-like-at (x ∷ xs) zero d h = like-refl (x ∷ xs)
-like-at (x ∷ xs) (suc i) d h = like-then (like-more x (like-at xs i d (omega arith))) (like-swap x (getD xs i d) (removeAt i xs))
-
--- what a search found passes
-passes-at : {A : Type 0} (test : A → Bool) (xs : List A) (i : ℕ) (d : A) → i ≡ position test xs → i < length xs → test (getD xs i d) ≡ true
-passes-at test xs i d e h = subst (FoundIf test xs) (first-at test xs i d e h) (found test xs) .passes
 
 -- a goal is posted only from a stack with room
 change-posts : {P : Type 0} (env : Env) (changes : List Change) (goal : Literal) (b : Bool) → cond b (stepped env changes) missed ≡ posted goal → P
@@ -114,13 +101,8 @@ module _ (bytes : List ℕ) (s : State) (fits : countsFit s ≡ true) (formed : 
       let moved = like-at (viewStacks s) place (viewStack d) (omega (arith, length-stacks s stacks-size)) in
       reform (like-refl (viewQueue s)) (subst (λ (k : Intention). Like (viewStacks s) (k ∷ removeAt place (viewStacks s))) (stack-at s place d low) moved) whole
 
-  pub top-plan : (place : ℕ) (d : Stack) → place < stackedOf s → getD (s .stacks) place d .top .plan < planCount bytes
+  top-plan : (place : ℕ) (d : Stack) → place < stackedOf s → getD (s .stacks) place d .top .plan < planCount bytes
   top-plan place d low = omega (arith, first-sound (stack-first place d low) .plan, length-plans bytes)
-
-  -- ---- Outcome
-
-  pub tells : (id : ℕ) → Tells bytes s id
-  tells id = record { fit = fits; plan = λ low. top-plan (position (isAwaiting id) (viewStacks s)) noStack low }
 
   -- ---- Report
 
@@ -196,9 +178,9 @@ module _ (bytes : List ℕ) (s : State) (fits : countsFit s ≡ true) (formed : 
         let low-there : posterPlace s origin < stackedOf s = omega (arith, length-stacks s stacks-size) in
         let is-poster = subst (λ (k : Intention). isPoster origin k ≡ true) (stack-at s (posterPlace s origin) noStack low-there)
         (passes-at (isPoster origin) (viewStacks s) (posterPlace s origin) (viewStack noStack) refl found-there) in
-        let asleep = and-parts (isSuspended (getD (s .stacks) (posterPlace s origin) noStack .top .status)) _ is-poster .0 in
+        let asleep = and-parts (isSuspended (stackAt s (posterPlace s origin) .top .status)) _ is-poster .0 in
         let height = first-stacked (stack-first (posterPlace s origin) noStack low-there) .room asleep in
-        record { there = low-there; room = omega (arith, height, length-down (depthOf (getD (s .stacks) (posterPlace s origin) noStack)) (getD (s .stacks) (posterPlace s origin) noStack .below)) }
+        record { there = low-there; room = omega (arith, height, length-down (depthOf (stackAt s (posterPlace s origin))) (stackAt s (posterPlace s origin) .below)) }
 
     pub takes-up : TakesUp s place
     takes-up = record { there = low; event = record { fit = fits; external = external-room; goal = goal-poster } }
@@ -224,18 +206,6 @@ module _ (bytes : List ℕ) (s : State) (fits : countsFit s ≡ true) (formed : 
         let tried = subst (λ (p : Plan). x .tried ≤ length (getD (p .states) (x .state) [])) is (sound .tried) in
         omega (arith, tried, state-branches (planOf bytes (x .plan) .states) (keeps bytes accepted (x .plan) there .states) (x .state) state)
 
-    -- the instance below the top has a plan that exists
-    poster-plan : 0 < depthOf (stackAt s place) → underTop (stackAt s place) .plan < planCount bytes
-    unfolding live jobsOn
-    poster-plan h =
-        let k = stackAt s place in
-        let x = underTop k in
-        let rest = viewStack (pop k x) .below in
-        let split = below-view k h in
-        let local = subst (λ (below : List Instance). Local (libraryOf bytes) (viewQueue s) (live (record { external = k .external; top = k .top; below = below } ∷ removeAt place (viewStacks s))) (s .taken) (s .made))
-        split (placed-first .local) in
-        omega (arith, top-sound x (eventOn (k .external) rest) (local-popped (k .top) (goalOf x) local) .plan, length-plans bytes)
-
     pub turnable : place ≡ position isRunning (viewStacks s) → Turnable bytes s place (stackAt s place)
     turnable e =
         let k = stackAt s place in
@@ -246,7 +216,6 @@ module _ (bytes : List ℕ) (s : State) (fits : countsFit s ≡ true) (formed : 
           standing = record { counts = fits; exists = low };
           depth = counts-depth s fits place noStack stacks-size low;
           plan = top-plan place noStack low;
-          poster = poster-plan;
           tried = tried-few;
           room = λ b goal m p. omega (arith, queue-room placed-first (active-awake (k .top .status) running) (posted-low (view (s .beliefs)) (heightOf (viewStack k)) (k .top .env) b goal p), length-queue s queue-size, within);
         }

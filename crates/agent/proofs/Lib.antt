@@ -1,4 +1,4 @@
-pub mod PlaceLaws
+pub mod GivesLaws
 pub mod OutcomeLaws
 pub mod LoadLaws
 pub mod AlteredLaws

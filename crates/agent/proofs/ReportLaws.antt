@@ -26,16 +26,17 @@ use Rattle.model.specs.Report.{newEvent, takeIn, reportBy, reported}
 use Rattle.model.specs.Changes.{changeOf, effective}
 use Rattle.lists.proofs.BoolLaws.{by-cases, both-ways}
 use Rattle.state.specs.declared.State.{State}
-use Rattle.state.specs.View.{viewQueue, viewStacks, viewState, countsFit}
+use Rattle.state.specs.View.{viewQueue, viewStacks, viewState}
 use Rattle.state.specs.Queue.{enqueue}
 use Rattle.state.proofs.StateLaws.{enqueue-state}
 use Rattle.agent.specs.declared.Acted.{Acted}
 use Rattle.agent.specs.declared.changes.Altered.{Altered}
 use Rattle.agent.specs.Altered.{untouched, Alters, Extends, Changed}
-use Rattle.agent.specs.View.{plainly}
-use Rattle.agent.specs.Report.{takenIn, changedTo, Hears, Reports, TakesIn, Reported}
+use Rattle.agent.specs.View.{plainly, changedTo}
+use Rattle.agent.specs.Gives.{Gives}
+use Rattle.agent.specs.Report.{takenIn, Hears, Reports}
 use Rattle.agent.proofs.AlteredLaws.{first-change}
-use Rattle.agent.proofs.CountLaws.{counts-parts, counts-whole}
+use Rattle.agent.proofs.CountLaws.{counts-table, counts-enqueue}
 
 -- one event more, from the end
 pub count-back : (test : Event → Bool) (xs : List Event) (n : ℕ) (d : Event) (b : Bool) → 0 < n → n ≤ length xs → test (getD xs (n - 1) d) ≡ b
@@ -132,14 +133,6 @@ module _ (b : Beliefs) (t : Altered) (e : t ≡ untouched b) where
 -- ---- Taking the report in
 
 module _ (s : State) (kind : ℕ) (l : Literal) (p : Reports s) (lens : (length (s .queue) ≡ 88) × (length (s .stacks) ≡ 8)) where
-  -- the counts after it
-  fits-in : (table : Beliefs) (number : ℕ) (event : Event) → table .count ≤ 64 → countsFit (changedTo (enqueue s event) table number) ≡ true
-  unfolding enqueue
-  fits-in table number event few =
-      let old = counts-parts s (p .fit) in
-      let room = p .room in
-      rw (lt-ltb (s .queued) 88 room) (counts-whole _ (record { beliefs = few; queued = omega arith; stacked = old .stacked; depths = old .depths }))
-
   -- the state after it
   state-in : (t : Altered) (number : ℕ) (event : Event) → Alters (s .beliefs) (reportChanges (view (s .beliefs)) kind l) t → event ≡ newEvent number kind l
       → viewState (changedTo (enqueue s event) (t .table) number)
@@ -157,14 +150,14 @@ module _ (s : State) (kind : ℕ) (l : Literal) (p : Reports s) (lens : (length 
 
   pub taken-in : (t : Altered) → Alters (s .beliefs) (reportChanges (view (s .beliefs)) kind l) t → (number : ℕ) → number ≡ s .taken + 1
       → (event : Event) → event ≡ newEvent number kind l → (next : State) → next ≡ enqueue s event
-      → (r : Acted) → r ≡ takenIn next t number → TakesIn s kind l r
+      → (r : Acted) → r ≡ takenIn next t number → Gives s (takeIn (viewState s) kind l (reportChanges (view (s .beliefs)) kind l)) r
   unfolding takeIn
   taken-in t a number n event v next w r z =
       let from = z ∙ ap (λ (x : State). takenIn x t number) w in
       let changes = a .noted in
       let state = state-in t number event a v in
       let means = (λ i. reply (Taken number) (changes i) (state i)) ∙ ap (λ (m : ℕ). reply (Taken m) (reportChanges (view (s .beliefs)) kind l) (arrived m)) n in
-      subst⁻¹ (TakesIn s kind l) from (record { means = means; kept = record { fit = fits-in (t .table) number event (a .few); refused = λ x. both-ways {b = false} x refl } })
+      subst⁻¹ (Gives s _) from (record { means = means; fit = counts-table (enqueue s event) (counts-enqueue s (p .fit) event) (t .table) number (a .few); refused = λ x. both-ways {b = false} x refl })
     where
       arrived : ℕ → AgentState
       arrived m = record {
@@ -192,15 +185,15 @@ module _ (s : State) (kind : ℕ) (l : Literal) (p : Hears s kind l) (refusal : 
   unfolding reported
   by-number = ap (reportBy (viewState s) kind l) (sym e)
 
-  pub reported-refused : (refusal ≡ 0 → ⊥) → (r : Acted) → r ≡ plainly s (Refused refusal) → Reported s kind l r
+  pub reported-refused : (refusal ≡ 0 → ⊥) → (r : Acted) → r ≡ plainly s (Refused refusal) → Gives s (reported (viewState s) kind l) r
   unfolding reportBy
   reported-refused h r z =
       let means : refuse refusal (viewState s) ≡ reported (viewState s) kind l = sym (by-number ∙ rw (ne-eqb refusal 0 h)) in
-      subst⁻¹ (Reported s kind l) z (record { means = means; kept = record { fit = p .fit; refused = λ x. refl } })
+      subst⁻¹ (Gives s (reported (viewState s) kind l)) z (record { means = means; fit = p .fit; refused = λ x. refl })
 
   pub reports : refusal ≡ 0 → Reports s
   reports h = record { fit = p .fit; number = spent (viewState s) kind l (sym e ∙ h); room = p .room (sym e ∙ h) }
 
-  pub reported-taken : refusal ≡ 0 → (r : Acted) → TakesIn s kind l r → Reported s kind l r
+  pub reported-taken : refusal ≡ 0 → (r : Acted) → Gives s (takeIn (viewState s) kind l (reportChanges (view (s .beliefs)) kind l)) r → Gives s (reported (viewState s) kind l) r
   unfolding reportBy
-  reported-taken h r t = record { means = t .means ∙ sym (by-number ∙ rw (eq-eqb refusal 0 h)); kept = t .kept }
+  reported-taken h r t = record { means = t .means ∙ sym (by-number ∙ rw (eq-eqb refusal 0 h)); fit = t .fit; refused = t .refused }

@@ -1,11 +1,11 @@
 -- By the plan that was chosen the event is made or closed, or refused where no number is left; no other answer is a refusal.
 use Prim.Native.Nat.{ℕ, _<_, _≤_}
-use mathlib.Core.Path.{_≡_, refl, ap, sym, subst, _∙_}
+use mathlib.Core.Path.{_≡_, refl, ap, sym, _∙_}
 use mathlib.Core.Bool.{true, false}
 use mathlib.Core.Option.{Option, none, some}
 use mathlib.Core.List.{List}
 use borrow.Author.Tests.{lt-ltb, le-ltb}
-use Rattle.lists.proofs.BoolLaws.{both-ways}
+use Rattle.lists.specs.Places.{Placed}
 use Rattle.belief.specs.Beliefs.{view}
 use Rattle.library.specs.Layout.{libraryOf}
 use Rattle.situation.specs.declared.Choice.{Choice}
@@ -17,17 +17,17 @@ use Rattle.model.specs.declared.Answer.the-variants.{Refused}
 use Rattle.model.specs.declared.Event.{Event}
 use Rattle.model.specs.declared.Origin.{Origin}
 use Rattle.model.specs.declared.Origin.the-variants.{External, Goal}
-use Rattle.lists.specs.Places.{Placed}
-use Rattle.model.specs.State.{AgentState, Reply}
+use Rattle.model.specs.State.{AgentState}
 use Rattle.model.specs.Event.{make, close, takeUp}
 use Rattle.model.specs.Cycle.{choiceFor}
 use Rattle.model.specs.Calls.{isRefusal}
 use Rattle.state.specs.declared.State.{State}
 use Rattle.state.specs.View.{viewState, countsFit}
 use Rattle.agent.specs.declared.Acted.{Acted}
-use Rattle.agent.specs.View.{plainly}
-use Rattle.agent.specs.TakeUp.{eventAt, Follows, TakenUp}
-use Rattle.agent.proofs.EventLaws.{follow}
+use Rattle.agent.specs.View.{plainly, eventAt}
+use Rattle.agent.specs.Gives.{Replies, Gives}
+use Rattle.agent.specs.TakeUp.{placedEvent}
+use Rattle.agent.proofs.GivesLaws.{gives-as, gives-same, gives-answer}
 
 -- ---- Neither way is a refusal
 
@@ -41,28 +41,26 @@ unfolding make
 make-answers s chosen (External n) = refl
 make-answers s chosen (Goal i state branch) = refl
 
-unrefused : {P : Type 0} (r : Acted) (reply : Reply) → Follows r reply → isRefusal (reply .result .answer) ≡ false → isRefusal (r .result .answer) ≡ true → P
-unrefused r reply h e q = both-ways q (ap (λ (a : Reply). isRefusal (a .result .answer)) (h .means) ∙ e)
-
 -- ---- By the plan chosen
 
 module _ (s : State) (place : ℕ) (bytes : List ℕ) (event : Event) (choice : Selected) (r : Acted)
     (there : event ≡ eventAt s place)
     (chose : chosenOf choice ≡ choose (view (s .beliefs)) (event .kind) (event .literal) (event .failed) (libraryOf bytes .plans)) where
-  taken : (o : Option Chosen) → chosenOf choice ≡ o → Follows r (takeUp (viewState s) (record { place = place; it = event }) o)
-      → (isRefusal (r .result .answer) ≡ true → r .state ≡ s) → TakenUp bytes s place r
-  unfolding choiceFor
-  taken o e h k =
-      let chosen : Follows r (takeUp (viewState s) (record { place = place; it = event }) (choiceFor (libraryOf bytes) (viewState s) event)) =
-      subst (λ (o : Option Chosen). Follows r (takeUp (viewState s) (record { place = place; it = event }) o)) (sym e ∙ chose) h in
-      let f = subst (λ (x : Event). Follows r (takeUp (viewState s) (record { place = place; it = x }) (choiceFor (libraryOf bytes) (viewState s) x))) there chosen in
-      record { means = f .means; kept = record { fit = f .fit; refused = k } }
+  -- the event at the place is taken up
+  abbrev TakenUp : Type 0
+  TakenUp = Gives s (takeUp (viewState s) (placedEvent s place) (choiceFor (libraryOf bytes) (viewState s) (eventAt s place))) r
 
-  pub closed : choice .choice ≡ None → Follows r (close (viewState s) (record { place = place; it = event }) (event .origin)) → TakenUp bytes s place r
+  taken : (o : Option Chosen) → chosenOf choice ≡ o → Gives s (takeUp (viewState s) (record { place = place; it = event }) o) r → TakenUp
+  unfolding choiceFor
+  taken o e =
+      gives-as (ap (takeUp (viewState s) (record { place = place; it = event })) (sym e ∙ chose)
+      ∙ ap (λ (x : Event). takeUp (viewState s) (record { place = place; it = x }) (choiceFor (libraryOf bytes) (viewState s) x)) there)
+
+  pub closed : choice .choice ≡ None → Replies (close (viewState s) (record { place = place; it = event }) (event .origin)) r → TakenUp
   unfolding takeUp
   closed e h =
-      taken none (ap (λ (k : Choice). chosenBy k (choice .env)) e) h
-      (unrefused r _ h (close-answers (viewState s) (record { place = place; it = event }) (event .origin)))
+      taken none (ap (λ (k : Choice). chosenBy k (choice .env)) e)
+      (gives-answer s _ r (close-answers (viewState s) (record { place = place; it = event }) (event .origin)) h)
 
   module _ (plan : ℕ) (e : choice .choice ≡ Plan plan) where
     chosen : Chosen
@@ -72,14 +70,11 @@ module _ (s : State) (place : ℕ) (bytes : List ℕ) (event : Event) (choice : 
     unfolding chosen
     chosen-is = ap (λ (k : Choice). chosenBy k (choice .env)) e
 
-    pub refused : 65535 ≤ s .made → countsFit s ≡ true → r ≡ plainly s (Refused 9) → TakenUp bytes s place r
+    pub refused : 65535 ≤ s .made → countsFit s ≡ true → r ≡ plainly s (Refused 9) → TakenUp
     unfolding takeUp
-    refused full fit p =
-        taken (some chosen) chosen-is (rw (le-ltb (s .made) 65535 full) (follow r s (Refused 9) (viewState s) p refl fit))
-        (λ q. ap (λ (a : Acted). a .state) p)
+    refused full fit p = taken (some chosen) chosen-is (rw (le-ltb (s .made) 65535 full) (gives-same s (Refused 9) r p fit))
 
-    pub made : s .made < 65535 → Follows r (make (viewState s) (record { plan = plan; env = choice .env }) (event .origin)) → TakenUp bytes s place r
+    pub made : s .made < 65535 → Replies (make (viewState s) (record { plan = plan; env = choice .env }) (event .origin)) r → TakenUp
     unfolding takeUp chosen
     made low h =
-        taken (some chosen) chosen-is (rw (lt-ltb (s .made) 65535 low) h)
-        (unrefused r _ h (make-answers (viewState s) chosen (event .origin)))
+        taken (some chosen) chosen-is (rw (lt-ltb (s .made) 65535 low) (gives-answer s _ r (make-answers (viewState s) chosen (event .origin)) h))

@@ -27,12 +27,12 @@ use Rattle.model.specs.Instance.{planOf, branchesOf}
 use Rattle.model.specs.Changes.{changeOf}
 use Rattle.model.specs.Try.{stepped, tryChange, tryAction, answerTo, isBarred, pursue, attempt}
 use Rattle.model.specs.Turn.{fails, succeeds, tries, moveBy, nextMove}
+use Rattle.jobs.proofs.PlaceLaws.{plan-there}
 use Rattle.agent.specs.declared.changes.Altered.{Altered}
 use Rattle.agent.specs.declared.tries.Outcome.{Outcome}
 use Rattle.agent.specs.declared.tries.Outcome.the-variants.{Missed, Stepped, Done, Posted}
 use Rattle.agent.specs.Altered.{changesOf, untouched, Alters}
 use Rattle.agent.specs.Trial.{viewOutcome, changesBy, Tries}
-use Rattle.agent.proofs.TurnLaws.{plan-read, branches-read}
 
 -- ---- No belief changes
 
@@ -123,13 +123,20 @@ module _ (bytes : List ℕ) (x : Instance) (there : x .plan < planCount bytes) (
   abbrev branches : List Branch
   branches = getD (layout.planOf bytes (x .plan) .states) (x .state) []
 
+  plan-read : planOf (libraryOf bytes) x ≡ layout.planOf bytes (x .plan)
+  plan-read = plan-there bytes x (planCount bytes) refl there
+
+  branches-read : branchesOf (libraryOf bytes) x ≡ branches
+  unfolding branchesOf
+  branches-read = ap (λ (p : Plan). getD (p .states) (x .state) []) plan-read
+
   read-move : (maintained : Bool) → holdsFrom beliefs (layout.planOf bytes (x .plan) .maintenance) (x .env) ≡ maintained
       → nextMove (libraryOf bytes) beliefs x ≡ moveBy maintained branches (x .tried)
   unfolding nextMove
   read-move maintained e =
-      ap (λ (p : Plan). moveBy (holdsFrom beliefs (p .maintenance) (x .env)) (branchesOf (libraryOf bytes) x) (x .tried)) (plan-read bytes x there)
+      ap (λ (p : Plan). moveBy (holdsFrom beliefs (p .maintenance) (x .env)) (branchesOf (libraryOf bytes) x) (x .tried)) plan-read
       ∙ ap (λ (b : Bool). moveBy b (branchesOf (libraryOf bytes) x) (x .tried)) e
-      ∙ ap (λ (bs : List Branch). moveBy maintained bs (x .tried)) (branches-read bytes x there)
+      ∙ ap (λ (bs : List Branch). moveBy maintained bs (x .tried)) branches-read
 
   module _ (at : ℕ) (kept : Bool) (e : at ≡ maintenanceOff bytes (entryOff bytes (x .plan))) (h : kept ≡ holdsFrom beliefs (situationAt bytes at) (x .env)) where
     tested : (b : Bool) → kept ≡ b → holdsFrom beliefs (layout.planOf bytes (x .plan) .maintenance) (x .env) ≡ b

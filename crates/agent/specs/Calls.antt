@@ -20,9 +20,13 @@ use Rattle.agent.specs.Load.{bytesOf}
 
 -- ---- An agent
 
--- the library is accepted, its length and every count are within their arrays, and the state keeps every rule
-unfoldable pub isWellFormedAgent : Agent → Bool
-isWellFormedAgent a = leb (a .length) (length (a .library)) && isFormed (bytesOf a) (a .state)
+-- a library in the first bytes of an array is accepted, its length and every count are within their arrays,
+-- and the state keeps every rule
+unfoldable pub isWellFormedWith : List ℕ → ℕ → State → Bool
+isWellFormedWith library size s = leb size (length library) && isFormed (take size library) s
+
+abbrev pub isWellFormedAgent : Agent → Bool
+isWellFormedAgent a = isWellFormedWith (a .library) (a .length) (a .state)
 
 -- the model's reply that an answer means
 abbrev pub viewReplied : Replied → Reply
@@ -49,7 +53,6 @@ withState a acted = record { agent = record { library = a .library; length = a .
 
 -- the same for a library in the first bytes of an array, and a state
 pub record CallsOn (library : List ℕ) (size : ℕ) (s : State) (c : Call) (r : Acted) : Type 0 where
-  pub means : viewActed r
-      ≡ callBy (leb size (length library) && isFormed (take size library) s) (libraryOf (take size library)) (viewState s) c
+  pub means : viewActed r ≡ callBy (isWellFormedWith library size s) (libraryOf (take size library)) (viewState s) c
   pub refused : isRefusal (r .result .answer) ≡ true → r .state ≡ s
-  pub fit : (leb size (length library) && isFormed (take size library) s) ≡ true → countsFit (r .state) ≡ true
+  pub fit : isWellFormedWith library size s ≡ true → countsFit (r .state) ≡ true

@@ -1,5 +1,5 @@
 pub mod View
-pub mod Kept
+pub mod Gives
 pub mod Outcome
 pub mod Load
 pub mod Altered

@@ -1,28 +1,18 @@
--- Taking up a pending event (document 01, "Cycle", first paragraph): what the code needs of the state, and what it gives.
+-- Taking up a pending event (document 01, "Cycle", first paragraph): what the code needs of the state.
 use Prim.Native.Nat.{ℕ, _<_}
 use mathlib.Core.Path.{_≡_}
 use mathlib.Core.Bool.{true, false}
-use mathlib.Core.List.{List}
-use lib.ListN.{getD}
 use Rattle.lists.specs.Search.{position}
-use Rattle.library.specs.Layout.{libraryOf}
 use Rattle.model.specs.declared.Event.{Event}
 use Rattle.model.specs.declared.Origin.{Origin}
 use Rattle.lists.specs.Places.{Placed}
-use Rattle.model.specs.State.{mostStacks, Reply, noEvent}
+use Rattle.model.specs.State.{mostStacks}
 use Rattle.model.specs.Live.{isGoal, isPoster}
-use Rattle.model.specs.Event.{takeUp}
-use Rattle.model.specs.Cycle.{choiceFor}
 use Rattle.state.specs.declared.State.{State}
-use Rattle.state.specs.View.{mostBelow, noStack, queuedOf, stackedOf, viewStacks, viewState, countsFit}
-use Rattle.agent.specs.declared.Acted.{Acted}
-use Rattle.agent.specs.View.{viewActed}
-use Rattle.agent.specs.Kept.{Kept}
+use Rattle.state.specs.View.{mostBelow, queuedOf, stackedOf, viewStacks, countsFit}
+use Rattle.agent.specs.View.{eventAt, stackAt}
 
 -- ---- What stands where
-
-abbrev pub eventAt : State → ℕ → Event
-eventAt s place = getD (s .queue) place noEvent
 
 abbrev pub placedEvent : State → ℕ → Placed Event
 placedEvent s place = record { place = place; it = eventAt s place }
@@ -36,7 +26,7 @@ posterPlace s goal = position (isPoster goal) (viewStacks s)
 -- some top posted the goal, and its stack has room for one instance more
 pub record HasPoster (s : State) (goal : Origin) : Type 0 where
   pub there : posterPlace s goal < stackedOf s
-  pub room : getD (s .stacks) (posterPlace s goal) noStack .depth < mostBelow
+  pub room : stackAt s (posterPlace s goal) .depth < mostBelow
 
 -- an instance for an event of this origin has its place: on a new stack, or on its poster's
 pub record HasPlace (s : State) (origin : Origin) : Type 0 where
@@ -48,15 +38,3 @@ pub record HasPlace (s : State) (origin : Origin) : Type 0 where
 pub record TakesUp (s : State) (place : ℕ) : Type 0 where
   pub there : place < queuedOf s
   pub event : HasPlace s (eventAt s place .origin)
-
--- ---- What it gives
-
--- the model's reply, and every count is within its array
-pub record Follows (r : Acted) (reply : Reply) : Type 0 where
-  pub means : viewActed r ≡ reply
-  pub fit : countsFit (r .state) ≡ true
-
--- the model's reply for the event by the plan chosen for it; a refusal leaves the state as it was, and the counts still fit
-pub record TakenUp (bytes : List ℕ) (s : State) (place : ℕ) (r : Acted) : Type 0 where
-  pub means : viewActed r ≡ takeUp (viewState s) (placedEvent s place) (choiceFor (libraryOf bytes) (viewState s) (eventAt s place))
-  pub kept : Kept s r

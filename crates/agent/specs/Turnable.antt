@@ -1,35 +1,31 @@
 -- What a turn's workers need and give: a stack at its place, and the reply in which it goes last.
 use Prim.Native.Nat.{ℕ, _<_, _≤_}
 use mathlib.Core.Path.{_≡_}
-use mathlib.Core.Bool.{true}
+use mathlib.Core.Bool.{Bool, true, cond}
 use mathlib.Core.List.{List, _++_}
-use lib.ListN.{getD}
 use Rattle.lists.specs.Gap.{removeAt}
 use Rattle.literal.specs.declared.Literal.{Literal}
-use Rattle.belief.specs.declared.Beliefs.{Beliefs}
 use Rattle.belief.specs.Beliefs.{view}
 use Rattle.library.specs.declared.Branch.{Branch}
 use Rattle.library.specs.Layout.{planCount, libraryOf}
 use Rattle.library.specs.Refusal.{Accepted}
 use Rattle.model.specs.declared.Answer.{Answer}
 use Rattle.model.specs.declared.Event.{Event}
+use Rattle.model.specs.declared.Origin.{Origin}
 use Rattle.model.specs.State.{mostQueued, Intention, AgentState, Reply, reply, requeued}
 use Rattle.lists.specs.Places.{Placed}
 use Rattle.model.specs.Try.{attempt, posted}
+use Rattle.model.specs.End.{closeEvent, markEvent}
 use Rattle.model.specs.Turn.{Move, fails, succeeds, tries, nextMove, heightOf}
 use Rattle.state.specs.declared.Stack.{Stack}
 use Rattle.state.specs.declared.State.{State}
-use Rattle.state.specs.View.{mostBelow, noStack, depthOf, viewStack, stackedOf, viewState, countsFit}
-use Rattle.state.specs.Stacks.{underTop}
+use Rattle.state.specs.View.{mostBelow, viewStack, stackedOf, viewState, countsFit}
 use Rattle.agent.specs.declared.Acted.{Acted}
 use Rattle.agent.specs.declared.changes.Altered.{Altered}
 use Rattle.agent.specs.declared.turn.Decision.{Decision}
 use Rattle.agent.specs.declared.turn.Decision.the-variants.{Fail, Succeed, Attempt}
-use Rattle.agent.specs.View.{viewActed}
+use Rattle.agent.specs.View.{changedTo}
 use Rattle.agent.specs.Altered.{changesOf}
-
-abbrev pub stackAt : State → ℕ → Stack
-stackAt s place = getD (s .stacks) place noStack
 
 -- the stack as the model has it, with its place
 abbrev pub placed : ℕ → Stack → Placed Intention
@@ -47,35 +43,19 @@ pub record Turnable (bytes : List ℕ) (s : State) (place : ℕ) (stack : Stack)
   pub standing : Standing s place
   pub depth : stack .depth ≤ mostBelow
   pub plan : stack .top .plan < planCount bytes
-  pub poster : 0 < depthOf stack → underTop stack .plan < planCount bytes
   pub tried : stack .top .tried ≤ 4
   pub room : (b : Branch) (goal : Literal) → nextMove (libraryOf bytes) (view (s .beliefs)) (stack .top) ≡ tries b
       → attempt (view (s .beliefs)) (heightOf (viewStack stack)) (stack .top .env) b ≡ posted goal → s .queued < mostQueued
 
 -- ---- What it gives
 
--- the reply, and that the counts still fit
-pub record Replies (expected : Reply) (r : Acted) : Type 0 where
-  pub shown : viewActed r ≡ expected
-  pub counts : countsFit (r .state) ≡ true
-
--- the state with another belief table
-abbrev pub withTable : State → Beliefs → State
-withTable s table =
-    record {
-      beliefs = table;
-      queue = s .queue;
-      queued = s .queued;
-      stacks = s .stacks;
-      stacked = s .stacked;
-      taken = s .taken;
-      made = s .made;
-    }
-
 -- the answer, the changes and the altered table, in the code's own types
 abbrev pub replied : State → Answer → Altered → Acted
 replied s answer altered =
-    record { state = withTable s (altered .table); result = record { answer = answer; changes = altered .changes; count = altered .count } }
+    record {
+      state = changedTo s (altered .table) (s .taken);
+      result = record { answer = answer; changes = altered .changes; count = altered .count };
+    }
 
 -- the stack at a place goes, these are last in turn, and the table is the altered one
 abbrev pub ended : AgentState → ℕ → List Intention → Answer → Altered → Reply
@@ -88,6 +68,10 @@ ended s place next answer altered =
       taken = s .taken;
       made = s .made;
     })
+
+-- the queue after an instance's end: its event is closed, or its plan has failed for it
+abbrev pub queueBy : Bool → ℕ → Origin → List Event → List Event
+queueBy closes plan origin queue = cond closes (closeEvent origin queue) (markEvent plan origin queue)
 
 -- the state with another queue; the stacks keep their places
 pub record Requeues (s : State) (place : ℕ) (queue : List Event) (r : State) : Type 0 where

@@ -1,14 +1,21 @@
--- What a result and a state mean together: the model's reply.
+-- What a result and a state mean together: the model's reply. What stands where in a state.
+use Prim.Native.Nat.{ℕ}
 use mathlib.Core.Bool.{false}
 use mathlib.Core.List.{[], _∷_}
+use lib.ListN.{getD}
+use Rattle.belief.specs.declared.Beliefs.{Beliefs}
 use Rattle.belief.specs.declared.Change.{Change}
 use Rattle.library.specs.Plan.{noLiteral}
 use Rattle.model.specs.declared.Answer.{Answer}
 use Rattle.model.specs.declared.Answered.{Answered}
-use Rattle.model.specs.State.{Reply, viewResult}
+use Rattle.model.specs.declared.Event.{Event}
+use Rattle.model.specs.State.{Reply, viewResult, noEvent}
+use Rattle.state.specs.declared.Stack.{Stack}
 use Rattle.state.specs.declared.State.{State}
-use Rattle.state.specs.View.{viewState}
+use Rattle.state.specs.View.{noStack, viewState}
 use Rattle.agent.specs.declared.Acted.{Acted}
+
+-- ---- A result with the state after it
 
 abbrev pub viewActed : Acted → Reply
 viewActed a = record { result = viewResult (a .result); state = viewState (a .state) }
@@ -24,3 +31,24 @@ plain answer = record { answer = answer; changes = noChange ∷ noChange ∷ noC
 -- such an answer, and the state after it
 abbrev pub plainly : State → Answer → Acted
 plainly s answer = record { state = s; result = plain answer }
+
+-- ---- A state
+
+abbrev pub eventAt : State → ℕ → Event
+eventAt s place = getD (s .queue) place noEvent
+
+abbrev pub stackAt : State → ℕ → Stack
+stackAt s place = getD (s .stacks) place noStack
+
+-- the state with another belief table, and another number of external events taken
+abbrev pub changedTo : State → Beliefs → ℕ → State
+changedTo s table taken =
+    record {
+      beliefs = table;
+      queue = s .queue;
+      queued = s .queued;
+      stacks = s .stacks;
+      stacked = s .stacked;
+      taken = taken;
+      made = s .made;
+    }

@@ -1,7 +1,7 @@
 // The calls on an agent: a state that is not well formed is refused first.
 ghost use mathlib.Core.Path.{_≡_};
 ghost use Rattle.model.specs.State.{report, cycle, outcome};
-ghost use Rattle.agent.specs.Calls.{refusedTen, withState, CallsOn, Calls};
+ghost use Rattle.agent.specs.Calls.{isWellFormedWith, refusedTen, withState, CallsOn, Calls};
 use crate::Acted;
 use crate::Agent;
 use crate::Replied;
@@ -23,15 +23,22 @@ fn refuse(s: State) -> Acted
     answer::acted(s, Answer::Refused(NOT_WELL_FORMED))
 }
 
+// Whether the library in the first `length` bytes is accepted and the state well formed.
+fn is_well_formed(library: &[u8], length: usize, s: State) -> bool
+    ensures { λ r. ⌜ r ≡ isWellFormedWith (now (library .entry)) length s ⌝ }
+{
+    if library.len() < length {
+        return false;
+    }
+    let own = &library[..length];
+    formed::is_formed(own, s)
+}
+
 // A report, on the library in the first `length` bytes and a state.
 fn report_to(library: &[u8], length: usize, s: State, kind: u16, l: Literal) -> Acted
     ensures { λ r. ⌜ CallsOn (now (library .entry)) length s (report kind l) r ⌝ }
 {
-    if library.len() < length {
-        return refuse(s);
-    }
-    let own = &library[..length];
-    if !formed::is_formed(own, s) {
+    if !is_well_formed(library, length, s) {
         return refuse(s);
     }
     report::report_on(s, kind, l)
@@ -41,13 +48,10 @@ fn report_to(library: &[u8], length: usize, s: State, kind: u16, l: Literal) -> 
 fn cycle_with(library: &[u8], length: usize, s: State) -> Acted
     ensures { λ r. ⌜ CallsOn (now (library .entry)) length s cycle r ⌝ }
 {
-    if library.len() < length {
+    if !is_well_formed(library, length, s) {
         return refuse(s);
     }
     let own = &library[..length];
-    if !formed::is_formed(own, s) {
-        return refuse(s);
-    }
     cycle::cycle_on(own, s)
 }
 
@@ -55,13 +59,10 @@ fn cycle_with(library: &[u8], length: usize, s: State) -> Acted
 fn outcome_for(library: &[u8], length: usize, s: State, id: Number, worked: bool) -> Acted
     ensures { λ r. ⌜ CallsOn (now (library .entry)) length s (outcome id worked) r ⌝ }
 {
-    if library.len() < length {
+    if !is_well_formed(library, length, s) {
         return refuse(s);
     }
     let own = &library[..length];
-    if !formed::is_formed(own, s) {
-        return refuse(s);
-    }
     outcome::tell(own, s, id, worked)
 }
 

@@ -1,5 +1,9 @@
 // Cycle: a pending event is taken up, else a stack has its turn, else the agent is idle.
-ghost use Rattle.agent.specs.Cycle.{WellFormedState, Cycled};
+ghost use Rattle.library.specs.Layout.{libraryOf};
+ghost use Rattle.model.specs.Cycle.{cycled};
+ghost use Rattle.state.specs.View.{viewState};
+ghost use Rattle.agent.specs.Gives.{Gives};
+ghost use Rattle.agent.specs.Cycle.{WellFormedState};
 use crate::Acted;
 use crate::answer;
 use crate::event;
@@ -13,7 +17,7 @@ use state::stacks;
 // One cycle, on a well-formed state of an accepted library.
 pub(crate) fn cycle_on(library: &[u8], s: State) -> Acted
     requires { ⌜ WellFormedState (now library) s ⌝ }
-    ensures { λ r. ⌜ Cycled (now (library .entry)) s r ⌝ }
+    ensures { λ r. ⌜ Gives s (cycled (libraryOf (now (library .entry))) (viewState s)) r ⌝ }
 {
     let waiting = search::next_event(s);
     let queued = queue::queued_of(s);

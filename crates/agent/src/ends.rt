@@ -1,25 +1,21 @@
 // The end of an instance: its list runs, it is popped, its event is closed or marked, and the stack goes last.
 ghost use mathlib.Core.Path.{_≡_};
-ghost use mathlib.Core.Bool.{true};
 ghost use mathlib.Core.List.{[], _∷_};
 ghost use Prim.Native.Nat.{_<_, _≤_};
 ghost use Rattle.belief.specs.Beliefs.{mostBeliefs};
-ghost use Rattle.library.specs.Layout.{planCount, libraryOf};
-ghost use Rattle.model.specs.Instance.{stepTo, pastBranch};
-ghost use Rattle.model.specs.End.{servedBy, closeEvent, markEvent, popped, succeed, fail};
-ghost use Rattle.state.specs.View.{mostBelow, depthOf, viewStack, viewState, viewQueue};
-ghost use Rattle.state.specs.Stacks.{underTop};
-ghost use Rattle.agent.specs.Turnable.{placed, Standing, Turnable, Replies, replied, ended, Requeues};
+ghost use Rattle.library.specs.Layout.{libraryOf};
+ghost use Rattle.model.specs.Instance.{pastBranch};
+ghost use Rattle.model.specs.End.{servedBy, popped, succeed, fail};
+ghost use Rattle.state.specs.View.{mostBelow, viewStack, viewState, viewQueue};
+ghost use Rattle.agent.specs.Gives.{Replies};
+ghost use Rattle.agent.specs.Turnable.{placed, Standing, Turnable, replied, ended, queueBy, Requeues};
 use crate::Acted;
 use crate::changes;
 use crate::changes::Altered;
-use library::plan;
-use literal::Env;
+use crate::instance;
 use model::Answer;
 use model::Answered;
-use model::Instance;
 use model::Origin;
-use model::Status;
 use state::Stack;
 use state::State;
 use state::origin;
@@ -87,21 +83,15 @@ fn served_by(stack: Stack) -> Origin
     origin::goal_of(poster)
 }
 
-// The event leaves the queue.
-fn with_closed(s: State, place: usize, served: Origin) -> State
-    requires { ⌜ Standing s place ⌝ }
-    ensures { λ r. ⌜ Requeues s place (closeEvent served (viewQueue s)) r ⌝ }
-{
-    let i = search::event_place(s, served);
-    queue::without_event(s, i)
-}
-
-// The plan has failed for the event, which keeps its place.
-fn with_marked(s: State, place: usize, served: Origin, plan: u16) -> State
+// The event leaves the queue, or the plan has failed for it and it keeps its place.
+fn settled(s: State, place: usize, served: Origin, plan: u16, succeeds: bool) -> State
     requires { ⌜ Standing s place × (plan < 32) ⌝ }
-    ensures { λ r. ⌜ Requeues s place (markEvent plan served (viewQueue s)) r ⌝ }
+    ensures { λ r. ⌜ Requeues s place (queueBy succeeds plan served (viewQueue s)) r ⌝ }
 {
     let i = search::event_place(s, served);
+    if succeeds {
+        return queue::without_event(s, i);
+    }
     if queue::queued_of(s) <= i {
         return s;
     }
@@ -111,31 +101,6 @@ fn with_marked(s: State, place: usize, served: Origin, plan: u16) -> State
 }
 
 // ---- The stack
-
-// An instance in another state, active, with no branch tried there.
-pub(crate) fn stepped_to(x: Instance, next: u16, env: Env) -> Instance
-    ensures { λ r. ⌜ r ≡ stepTo next env x ⌝ }
-{
-    let active = Status::Active;
-    Instance {
-        env: env,
-        state: next,
-        tried: 0,
-        status: active,
-        ..x
-    }
-}
-
-// A poster steps past its goal.
-fn past_goal(library: &[u8], x: Instance) -> Instance
-    requires { ⌜ x .plan < planCount (now library) ⌝ }
-    ensures { λ r. ⌜ r ≡ pastBranch (libraryOf (now (library .entry))) x ⌝ }
-{
-    let last = origin::last_tried(x) as usize;
-    let branch = plan::branch(library, x.plan as usize, x.state as usize, last);
-    let env = x.env;
-    stepped_to(x, branch.next, env)
-}
 
 // The top goes, and the stack with it where it was alone; a poster below stays as it is.
 fn lowered(s: State, place: usize, stack: Stack, answer: Answer, altered: Altered) -> Acted
@@ -160,8 +125,7 @@ fn raised(
     answer: Answer,
     altered: Altered,
 ) -> Acted
-    requires { ⌜ Standing s place × ((altered .table .count ≤ mostBeliefs)
-        × (0 < depthOf stack → underTop stack .plan < planCount (now library))) ⌝ }
+    requires { ⌜ Standing s place × (altered .table .count ≤ mostBeliefs) ⌝ }
     ensures { λ r. ⌜ Replies (ended (viewState s) place
         (popped (stack .external) (pastBranch (libraryOf (now (library .entry)))) (viewStack stack .below)) answer altered) r ⌝ }
 {
@@ -169,7 +133,7 @@ fn raised(
         return emptied(s, place, answer, altered);
     }
     let poster = stacks::under_top(stack);
-    let past = past_goal(library, poster);
+    let past = instance::past_branch(library, poster);
     let next = stacks::popped(stack, past);
     turned(s, place, next, answer, altered)
 }
@@ -186,7 +150,7 @@ pub(crate) fn succeed(library: &[u8], s: State, place: usize, stack: Stack) -> A
     let b = s.beliefs;
     let altered = changes::list_run(library, x.plan as usize, true, env, b);
     let served = served_by(stack);
-    let closed = with_closed(s, place, served);
+    let closed = settled(s, place, served, x.plan, true);
     let answer = Answer::Succeeded(x.id);
     raised(library, closed, place, stack, answer, altered)
 }
@@ -201,7 +165,7 @@ pub(crate) fn fail(library: &[u8], s: State, place: usize, stack: Stack) -> Acte
     let b = s.beliefs;
     let altered = changes::list_run(library, x.plan as usize, false, env, b);
     let served = served_by(stack);
-    let marked = with_marked(s, place, served, x.plan);
+    let marked = settled(s, place, served, x.plan, false);
     let answer = Answer::Failed(x.id);
     lowered(marked, place, stack, answer, altered)
 }

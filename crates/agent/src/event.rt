@@ -2,13 +2,17 @@
 ghost use mathlib.Core.Path.{_≡_};
 ghost use mathlib.Core.Bool.{true};
 ghost use Prim.Native.Nat.{_<_, _≤_};
+ghost use Rattle.library.specs.Layout.{libraryOf};
 ghost use Rattle.model.specs.State.{mostNumber, mostStacks};
-ghost use Rattle.model.specs.Instance.{awake};
-ghost use Rattle.model.specs.Event.{newInstance, opened, pushed, make, woken, close};
+ghost use Rattle.model.specs.Event.{newInstance, opened, pushed, make, woken, close, takeUp};
+ghost use Rattle.model.specs.Cycle.{choiceFor};
 ghost use Rattle.state.specs.View.{mostBelow, countsFit, viewStack, viewState};
-ghost use Rattle.agent.specs.TakeUp.{HasPoster, HasPlace, TakesUp, Follows, TakenUp};
+ghost use Rattle.agent.specs.View.{eventAt};
+ghost use Rattle.agent.specs.Gives.{Replies, Gives};
+ghost use Rattle.agent.specs.TakeUp.{placedEvent, HasPoster, HasPlace, TakesUp};
 use crate::Acted;
 use crate::answer;
+use crate::instance;
 use literal::Env;
 use model::Answer;
 use model::Event;
@@ -64,23 +68,13 @@ fn with_pushed(stack: Stack, x: Instance) -> Stack
     stacks::pushed(stack, x)
 }
 
-// The instance active again, where it was.
-fn awake(x: Instance) -> Instance
-    ensures { λ r. ⌜ r ≡ awake x ⌝ }
-{
-    Instance {
-        status: Status::Active,
-        ..x
-    }
-}
-
 // The poster's stack, its top active again.
 fn woken(stack: Stack) -> Stack
     requires { ⌜ stack .depth ≤ mostBelow ⌝ }
     ensures { λ r. ⌜ (viewStack r ≡ woken (viewStack stack)) × (r .depth ≤ mostBelow) ⌝ }
 {
     let top = stack.top;
-    let poster = awake(top);
+    let poster = instance::awoken(top);
     Stack {
         top: poster,
         ..stack
@@ -90,7 +84,7 @@ fn woken(stack: Stack) -> Stack
 // An instance for an external event, on a new stack last in turn.
 fn make_external(s: State, plan: u16, env: Env, external: Number) -> Acted
     requires { ⌜ (countsFit s ≡ true) × (s .stacked < mostStacks) × (s .made < mostNumber) ⌝ }
-    ensures { λ r. ⌜ Follows r (make (viewState s) (record { plan = plan; env = env }) (Origin.External external)) ⌝ }
+    ensures { λ r. ⌜ Replies (make (viewState s) (record { plan = plan; env = env }) (Origin.External external)) r ⌝ }
 {
     let x = new_instance(s.made, plan, env);
     let stack = new_stack(external, x);
@@ -110,7 +104,7 @@ fn make_external(s: State, plan: u16, env: Env, external: Number) -> Acted
 // An instance for a goal, on the poster's stack.
 fn make_goal(s: State, plan: u16, env: Env, instance: Number, state: u16, branch: u16) -> Acted
     requires { ⌜ (countsFit s ≡ true) × (s .made < mostNumber) × HasPoster s (Origin.Goal instance state branch) ⌝ }
-    ensures { λ r. ⌜ Follows r (make (viewState s) (record { plan = plan; env = env }) (Origin.Goal instance state branch)) ⌝ }
+    ensures { λ r. ⌜ Replies (make (viewState s) (record { plan = plan; env = env }) (Origin.Goal instance state branch)) r ⌝ }
 {
     let goal = Origin::Goal {
         instance: instance,
@@ -137,7 +131,7 @@ fn make_goal(s: State, plan: u16, env: Env, instance: Number, state: u16, branch
 // An instance for the event.
 fn make_event(s: State, event: Event, plan: u16, env: Env) -> Acted
     requires { ⌜ HasPlace s (event .origin) × (s .made < mostNumber) ⌝ }
-    ensures { λ r. ⌜ Follows r (make (viewState s) (record { plan = plan; env = env }) (event .origin)) ⌝ }
+    ensures { λ r. ⌜ Replies (make (viewState s) (record { plan = plan; env = env }) (event .origin)) r ⌝ }
 {
     let origin = event.origin;
     match origin {
@@ -153,7 +147,7 @@ fn make_event(s: State, event: Event, plan: u16, env: Env) -> Acted
 // An external event for which no plan applies is dropped.
 fn drop_event(s: State, place: usize, event: Event, external: Number) -> Acted
     requires { ⌜ countsFit s ≡ true ⌝ }
-    ensures { λ r. ⌜ Follows r (close (viewState s) (record { place = place; it = event }) (Origin.External external)) ⌝ }
+    ensures { λ r. ⌜ Replies (close (viewState s) (record { place = place; it = event }) (Origin.External external)) r ⌝ }
 {
     let failures = failed::size(event.failed);
     let next = queue::without_event(s, place);
@@ -174,7 +168,7 @@ fn unmet_goal(
     branch: u16,
 ) -> Acted
     requires { ⌜ (countsFit s ≡ true) × HasPoster s (Origin.Goal instance state branch) ⌝ }
-    ensures { λ r. ⌜ Follows r (close (viewState s) (record { place = place; it = event }) (Origin.Goal instance state branch)) ⌝ }
+    ensures { λ r. ⌜ Replies (close (viewState s) (record { place = place; it = event }) (Origin.Goal instance state branch)) r ⌝ }
 {
     let goal = Origin::Goal {
         instance: instance,
@@ -199,7 +193,7 @@ fn unmet_goal(
 // The event leaves the queue.
 fn close_event(s: State, place: usize, event: Event) -> Acted
     requires { ⌜ HasPlace s (event .origin) ⌝ }
-    ensures { λ r. ⌜ Follows r (close (viewState s) (record { place = place; it = event }) (event .origin)) ⌝ }
+    ensures { λ r. ⌜ Replies (close (viewState s) (record { place = place; it = event }) (event .origin)) r ⌝ }
 {
     let origin = event.origin;
     match origin {
@@ -215,7 +209,8 @@ fn close_event(s: State, place: usize, event: Event) -> Acted
 // The event at a place is taken up: by the first applicable plan, or closed; refused where no instance number is left.
 pub(crate) fn take_up(library: &[u8], s: State, place: usize) -> Acted
     requires { ⌜ TakesUp s place ⌝ }
-    ensures { λ r. ⌜ TakenUp (now (library .entry)) s place r ⌝ }
+    ensures { λ r. ⌜ Gives s (takeUp (viewState s) (placedEvent s place)
+        (choiceFor (libraryOf (now (library .entry))) (viewState s) (eventAt s place))) r ⌝ }
 {
     let event = s.queue[place];
     let beliefs = s.beliefs;

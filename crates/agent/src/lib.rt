@@ -8,6 +8,7 @@ mod changes; // belief changes of a call
 mod cycle; // one cycle
 mod ends; // success and failure
 mod event; // taking up a pending event
+mod instance; // an instance moves on
 pub mod load; // a library becomes an agent
 mod outcome; // the outcome of an external action
 mod report; // a report of a device

@@ -1,16 +1,18 @@
 // Outcome: the waiting instance steps past its action, or is missed; turn order stays.
 ghost use mathlib.Core.Path.{_≡_};
-ghost use Prim.Native.Nat.{_<_};
-ghost use Rattle.library.specs.Layout.{planCount, libraryOf};
-ghost use Rattle.model.specs.Instance.{awake, pastBranch};
+ghost use mathlib.Core.Bool.{true};
+ghost use Rattle.library.specs.Layout.{libraryOf};
+ghost use Rattle.model.specs.Outcome.{told};
 ghost use Rattle.state.specs.Stacks.{replaceTop, putAt};
-ghost use Rattle.agent.specs.Outcome.{steppedOn, missedOn, Tells, Told};
+ghost use Rattle.state.specs.View.{viewState, countsFit};
+ghost use Rattle.agent.specs.Gives.{Gives};
+ghost use Rattle.agent.specs.Outcome.{steppedOn, missedOn};
 use crate::Acted;
 use crate::answer;
+use crate::instance;
 use model::Answer;
 use model::Instance;
 use model::Number;
-use model::Status;
 use state::Stack;
 use state::State;
 use state::origin;
@@ -19,31 +21,6 @@ use state::stacks;
 
 // The refusal of an outcome for an id that is not waiting.
 const NOT_WAITING: u16 = 8;
-
-// The instance, active again where it was.
-pub(crate) fn awoken(x: Instance) -> Instance
-    ensures { λ r. ⌜ r ≡ awake x ⌝ }
-{
-    Instance {
-        status: Status::Active,
-        ..x
-    }
-}
-
-// The instance past the action that it waited for.
-fn past_action(library: &[u8], x: Instance) -> Instance
-    requires { ⌜ x .plan < planCount (now library) ⌝ }
-    ensures { λ r. ⌜ r ≡ pastBranch (libraryOf (now (library .entry))) x ⌝ }
-{
-    let last = origin::last_tried(x);
-    let branch = library::plan::branch(library, x.plan as usize, x.state as usize, last as usize);
-    Instance {
-        state: branch.next,
-        tried: 0,
-        status: Status::Active,
-        ..x
-    }
-}
 
 // The state with another top on the stack at a place.
 fn with_top_at(s: State, place: usize, stack: Stack, x: Instance) -> State
@@ -55,11 +32,10 @@ fn with_top_at(s: State, place: usize, stack: Stack, x: Instance) -> State
 
 // The action worked: the instance steps.
 fn step_on(library: &[u8], s: State, place: usize, stack: Stack) -> Acted
-    requires { ⌜ stack .top .plan < planCount (now library) ⌝ }
     ensures { λ r. ⌜ r ≡ steppedOn (libraryOf (now (library .entry))) s place stack ⌝ }
 {
     let x = stack.top;
-    let next = past_action(library, x);
+    let next = instance::past_branch(library, x);
     let t = with_top_at(s, place, stack, next);
     let last = origin::last_tried(x);
     answer::acted(
@@ -78,7 +54,7 @@ fn miss(s: State, place: usize, stack: Stack) -> Acted
     ensures { λ r. ⌜ r ≡ missedOn s place stack ⌝ }
 {
     let x = stack.top;
-    let next = awoken(x);
+    let next = instance::awoken(x);
     let t = with_top_at(s, place, stack, next);
     let last = origin::last_tried(x);
     answer::acted(
@@ -93,8 +69,8 @@ fn miss(s: State, place: usize, stack: Stack) -> Acted
 
 // An outcome for an id, on a state whose counts fit.
 pub(crate) fn tell(library: &[u8], s: State, id: Number, worked: bool) -> Acted
-    requires { ⌜ Tells (now library) s id ⌝ }
-    ensures { λ r. ⌜ Told (now (library .entry)) s id worked r ⌝ }
+    requires { ⌜ countsFit s ≡ true ⌝ }
+    ensures { λ r. ⌜ Gives s (told (libraryOf (now (library .entry))) (viewState s) id worked) r ⌝ }
 {
     let place = search::waiting_place(s, id);
     let n = stacks::stacked_of(s);

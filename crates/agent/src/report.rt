@@ -4,10 +4,11 @@ ghost use Prim.Native.Nat.{_≤_};
 ghost use Rattle.lists.specs.Counts.{count};
 ghost use Rattle.belief.specs.Beliefs.{mostBeliefs, view};
 ghost use Rattle.model.specs.Live.{isExternal};
-ghost use Rattle.model.specs.Report.{isReportable, isOverfull, reportRefusal, reportChanges, newEvent};
+ghost use Rattle.model.specs.Report.{isReportable, isOverfull, reportRefusal, reportChanges, newEvent, takeIn, reported};
 ghost use Rattle.state.specs.View.{viewQueue, viewState};
 ghost use Rattle.agent.specs.Altered.{Alters};
-ghost use Rattle.agent.specs.Report.{Hears, Reports, Reported, TakesIn};
+ghost use Rattle.agent.specs.Gives.{Gives};
+ghost use Rattle.agent.specs.Report.{Hears, Reports};
 use crate::Acted;
 use crate::answer;
 use crate::changes;
@@ -125,7 +126,7 @@ fn new_event(number: u16, kind: u16, l: Literal) -> Event
 // The report is taken in.
 fn taken_in(s: State, kind: u16, l: Literal) -> Acted
     requires { ⌜ Reports s ⌝ }
-    ensures { λ r. ⌜ TakesIn s kind l r ⌝ }
+    ensures { λ r. ⌜ Gives s (takeIn (viewState s) kind l (reportChanges (view (s .beliefs)) kind l)) r ⌝ }
 {
     let b = s.beliefs;
     let t = believed(b, kind, l);
@@ -149,7 +150,7 @@ fn taken_in(s: State, kind: u16, l: Literal) -> Acted
 // A report, on a state whose counts fit.
 pub(crate) fn report_on(s: State, kind: u16, l: Literal) -> Acted
     requires { ⌜ Hears s kind l ⌝ }
-    ensures { λ r. ⌜ Reported s kind l r ⌝ }
+    ensures { λ r. ⌜ Gives s (reported (viewState s) kind l) r ⌝ }
 {
     let refusal = refusal_of(s, kind, l);
     if refusal != 0 {

@@ -5,16 +5,18 @@ ghost use Prim.Native.Nat.{_+_, _<_, _≤_};
 ghost use Rattle.belief.specs.Beliefs.{view};
 ghost use Rattle.library.specs.Layout.{planCount, libraryOf};
 ghost use Rattle.model.specs.State.{mostQueued};
-ghost use Rattle.model.specs.Instance.{tryNext};
 ghost use Rattle.model.specs.Try.{missed, stepped, done, posted, attempt, tried};
 ghost use Rattle.model.specs.Turn.{nextMove, heightOf, turn};
 ghost use Rattle.state.specs.View.{mostBelow, viewStack, viewState};
 ghost use Rattle.agent.specs.Altered.{changesOf, Alters};
 ghost use Rattle.agent.specs.Trial.{viewTrial, changesBy};
-ghost use Rattle.agent.specs.Turnable.{stackAt, placed, Standing, Turnable, Replies, viewDecision};
+ghost use Rattle.agent.specs.Turnable.{placed, Standing, Turnable, viewDecision};
+ghost use Rattle.agent.specs.Gives.{Replies};
+ghost use Rattle.agent.specs.View.{stackAt};
 use crate::Acted;
 use crate::changes::Altered;
 use crate::ends;
+use crate::instance;
 use crate::tries;
 use crate::tries::Outcome;
 use crate::tries::Trial;
@@ -42,19 +44,6 @@ pub enum Decision {
 
 // ---- What came of a branch
 
-// One branch more is tried.
-fn with_try(x: Instance, status: Status) -> Instance
-    requires { ⌜ x .tried ≤ 4 ⌝ }
-    ensures { λ r. ⌜ r ≡ tryNext status x ⌝ }
-{
-    let tried = x.tried + 1;
-    Instance {
-        tried: tried,
-        status: status,
-        ..x
-    }
-}
-
 // The branch missed: the instance stays active.
 fn on_missed(s: State, place: usize, stack: Stack, branch: Branch, altered: Altered) -> Acted
     requires { ⌜ Standing s place × ((stack .depth ≤ mostBelow) × ((stack .top .tried ≤ 4) × Alters (s .beliefs) [] altered)) ⌝ }
@@ -62,7 +51,7 @@ fn on_missed(s: State, place: usize, stack: Stack, branch: Branch, altered: Alte
 {
     let x = stack.top;
     let active = Status::Active;
-    let top = with_try(x, active);
+    let top = instance::with_try(x, active);
     let next = Stack { top: top, ..stack };
     let answer = Answer::Missed {
         instance: x.id,
@@ -85,7 +74,7 @@ fn on_stepped(
     ensures { λ r. ⌜ Replies (tried (viewState s) (placed place stack) branch (stepped env (changesOf altered))) r ⌝ }
 {
     let x = stack.top;
-    let top = ends::stepped_to(x, branch.next, env);
+    let top = instance::stepped_to(x, branch.next, env);
     let next = Stack { top: top, ..stack };
     let answer = Answer::Stepped {
         instance: x.id,
@@ -110,7 +99,7 @@ fn on_done(
 {
     let x = stack.top;
     let waiting = Status::Waiting;
-    let top = with_try(x, waiting);
+    let top = instance::with_try(x, waiting);
     let next = Stack { top: top, ..stack };
     let answer = Answer::Done {
         instance: x.id,
@@ -148,7 +137,7 @@ fn on_posted(
     };
     let queued = queue::with_event(s, event);
     let suspended = Status::Suspended;
-    let top = with_try(x, suspended);
+    let top = instance::with_try(x, suspended);
     let next = Stack { top: top, ..stack };
     let answer = Answer::Posted {
         instance: x.id,

@@ -1,8 +1,10 @@
 -- Two lists with the same elements in whatever order: every sum over them is the same.
-use Prim.Native.Nat.{ℕ, _+_}
+use Prim.Native.Nat.{ℕ, zero, suc, _+_, _<_}
 use mathlib.Core.Path.{_≡_, refl, sym, ap, _∙_}
-use mathlib.Core.List.{List, _∷_, _++_}
+use mathlib.Core.List.{List, [], _∷_, _++_}
 use native.Mathlib.Omega.{arith}
+use lib.ListN.{length, getD}
+use Rattle.lists.specs.Gap.{removeAt}
 use Rattle.lists.specs.Counts.{total, each}
 use Rattle.lists.proofs.CountLaws.{total-append, total-each}
 
@@ -24,6 +26,12 @@ module _ {A : Type 0} where
 
   pub like-then : {xs ys zs : List A} → Like xs ys → Like ys zs → Like xs zs
   like-then a b = record { sums = λ f. a .sums f ∙ b .sums f }
+
+  -- an element, put first
+  pub like-at : (xs : List A) (i : ℕ) (d : A) → i < length xs → Like xs (getD xs i d ∷ removeAt i xs)
+  like-at [] i d h = absurd (omega arith)
+  like-at (x ∷ xs) zero d h = like-refl (x ∷ xs)
+  like-at (x ∷ xs) (suc i) d h = like-then (like-more x (like-at xs i d (omega arith))) (like-swap x (getD xs i d) (removeAt i xs))
 
   -- what stands first may stand last
   pub like-turn : (xs ys : List A) → Like (xs ++ ys) (ys ++ xs)

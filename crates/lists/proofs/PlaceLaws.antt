@@ -1,6 +1,6 @@
 -- Laws of the first element that passes a test: what is found passes, and taking it out or changing it leaves the others.
 use Prim.Native.Nat.{ℕ, zero, suc, _<_, _≤_}
-use mathlib.Core.Path.{_≡_, refl, ap}
+use mathlib.Core.Path.{_≡_, refl, ap, subst}
 use mathlib.Core.Option.{Option, none, some}
 use mathlib.Core.List.{List, [], _∷_}
 use mathlib.Core.Bool.{Bool, true, false, cond}
@@ -61,6 +61,16 @@ module _ {A : Type 0} (test : A → Bool) where
   pub first-none : (xs : List A) (i : ℕ) → i ≡ position test xs → length xs ≤ i → first test xs ≡ none
   unfolding first
   first-none xs i e h = rw (← e, no-element xs i h)
+
+  -- what is found passes
+  pub passes-at : (xs : List A) (i : ℕ) (d : A) → i ≡ position test xs → i < length xs → test (getD xs i d) ≡ true
+  passes-at xs i d e h = subst (FoundIf test xs) (first-at xs i d e h) (found xs) .passes
+
+  -- the element found, changed
+  pub change-there : (change : A → A) (xs : List A) (i : ℕ) (d : A) → i ≡ position test xs → i < length xs
+      → changeAt change xs (first test xs) ≡ set xs i (change (getD xs i d))
+  unfolding changeAt
+  change-there change xs i d e h = ap (changeAt change xs) (first-at xs i d e h)
 
   -- ---- The place itself, where something passes
 

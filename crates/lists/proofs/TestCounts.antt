@@ -49,10 +49,6 @@ module _ {A : Type 0} (test : A → Bool) where
   pub none-any : (xs : List A) → count test xs ≡ 0 → any test xs ≡ false
   none-any xs h = by-cases (any test xs) (λ e. absurd (omega (arith, any-some xs e))) (λ e. e)
 
-  -- one element that passes
-  pub every-at : (x : A) (xs : List A) → Every test (x ∷ xs) → test x ≡ true
-  every-at x xs h = bit-every (test x) (omega arith)
-
 -- ---- No two elements have the same key
 
 module _ {A K : Type 0} (key : A → K) (equal : K → K → Bool) (to : (a b : K) → equal a b ≡ true → a ≡ b) where

@@ -23,7 +23,7 @@ pub fn is_waiting(status: Status) -> bool
     ensures { λ r. ⌜ r ≡ isWaiting status ⌝ }
 {
     match status {
-        Status::Active => false,
+        Status::Active => false, // it awaits no outcome
         Status::Waiting => true,
         Status::Suspended => false,
     }

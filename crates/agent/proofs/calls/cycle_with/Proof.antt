@@ -2,57 +2,39 @@
 use borrow.Author.Needs.{needs}
 use mathlib.Core.Path.{sym, _∙_}
 use borrow.Author.Tests.{not-true, not-false}
-use lib.ListN.{length, take}
 use lib.Seq.{length-take-le}
 use Rattle.model.specs.State.{cycle}
 use Rattle.model.specs.Calls.{act}
-use Rattle.agent.proofs.CallsLaws.{formed-parts, calls-past, calls-unformed, calls-acted}
+use Rattle.agent.proofs.CallsLaws.{test-within, test-parts, calls-refused, calls-acted}
 use Rattle.agent.proofs.calls.cycle_with.Statement.{statement}
 use Rattle.agent.proofs.calls.cycle_with.Tie as tie
+
+is-well-formed-requires : tie.Need-is-well-formed-requires
+is-well-formed-requires c κs = search needs
 
 refuse-requires : tie.Need-refuse-requires
 refuse-requires c κs = search needs
 
 returns : tie.Need-returns
-returns c = let a = (c .before .before .before .args) in calls-past (a .library .now) (a .length) (a .s) cycle ((c .before .if1) .taken) ((c .refuse) .result) ((c .refuse) .ensures)
+returns c =
+    let a = (c .before .before .before .before .args) in
+    calls-refused (a .library .now) (a .length) (a .s) cycle ((c .refuse) .result) (sym ((c .before .before .is-well-formed) .ensures) ∙ not-true _ ((c .before .if1) .taken)) ((c .refuse) .ensures)
 
 slice-aggregate-own : tie.Need-slice-aggregate-own
-slice-aggregate-own c = sym (length-take-le ((c .before .before .before .args) .length) ((c .before .before .before .args) .library .now) ((c .before .if1) .left))
-
-is-formed-requires : tie.Need-is-formed-requires
-is-formed-requires c κs = search needs
-
-refuse-requires-2 : tie.Need-refuse-requires-2
-refuse-requires-2 c κs = search needs
-
-returns-2 : tie.Need-returns-2
-returns-2 c =
-    let a = (c .before .before .before .before .before .before .args) in
-    calls-unformed (a .library .now) (a .length) (a .s) cycle ((c .before .before .before .before .if1) .left) (sym ((c .before .before .is-formed) .ensures) ∙ not-true _ ((c .before .if2) .taken)) ((c .refuse2) .result) ((c .refuse2) .ensures)
+slice-aggregate-own c =
+    let a = (c .before .before .before .before .args) in
+    sym (length-take-le (a .length) (a .library .now) (test-within (a .library .now) (a .length) (a .s) (sym ((c .before .before .is-well-formed) .ensures) ∙ not-false _ ((c .before .if1) .left))))
 
 cycle-on-requires : tie.Need-cycle-on-requires
-cycle-on-requires c κs =
-    let a = (c .before .before .before .before .before .args) in
-    let p = formed-parts (take (a .length) (a .library .now)) (a .s) (sym ((c .before .is-formed) .ensures) ∙ not-false _ ((c .if2) .left)) in
-    p
+cycle-on-requires c κs = let a = (c .before .before .before .before .args) in test-parts (a .library .now) (a .length) (a .s) (sym ((c .before .before .is-well-formed) .ensures) ∙ not-false _ ((c .before .if1) .left))
 
-returns-3 : tie.Need-returns-3
+returns-2 : tie.Need-returns-2
 unfolding act
-returns-3 c =
-    let a = (c .before .before .before .before .before .before .args) in
-    let r = (c .cycle-on) .result in
-    let e = (c .cycle-on) .ensures in
-    calls-acted (a .library .now) (a .length) (a .s) cycle ((c .before .before .before .before .if1) .left) (sym ((c .before .before .is-formed) .ensures) ∙ not-false _ ((c .before .if2) .left)) r (e .means) (e .kept)
+returns-2 c =
+    let a = (c .before .before .before .before .before .args) in
+    calls-acted (a .library .now) (a .length) (a .s) cycle ((c .cycle-on) .result) (sym ((c .before .before .before .is-well-formed) .ensures) ∙ not-false _ ((c .before .before .if1) .left)) ((c .cycle-on) .ensures)
 
 pub cycle-with-spec : {M : Type 1} → statement M
 cycle-with-spec =
     tie.close
-    (tie.spec
-    refuse-requires
-    returns
-    slice-aggregate-own
-    is-formed-requires
-    refuse-requires-2
-    returns-2
-    cycle-on-requires
-    returns-3)
+    (tie.spec is-well-formed-requires refuse-requires returns slice-aggregate-own cycle-on-requires returns-2)

@@ -2,22 +2,23 @@
 use borrow.Author.Needs.{needs}
 use native.Mathlib.Omega.{arith}
 use denote.Ref.{now}
-use mathlib.Core.Path.{_≡_}
+use mathlib.Core.Path.{_≡_, refl}
 use Rattle.belief.specs.Beliefs.{view}
-use Rattle.library.specs.Layout.{libraryOf}
+use Rattle.library.specs.Layout.{planCount, libraryOf}
 use Rattle.library.specs.Layout as layout
-use Rattle.library.proofs.Accepted.{few-plans, plan-ok}
+use Rattle.library.proofs.RuleFacts.{few-actions}
+use Rattle.library.proofs.Accepted.{few-plans, keeps}
 use Rattle.model.specs.Changes.{effects}
-use mathlib.Core.Bool.{false}
 use Rattle.model.specs.declared.Answer.the-variants.{Failed}
 use Rattle.model.specs.Instance.{planOf}
 use Rattle.model.specs.End.{servedBy, markEvent, popped, endTop, fail}
 use Rattle.state.specs.View.{viewStack, viewQueue, viewState}
+use Rattle.jobs.proofs.PlaceLaws.{plan-there}
 use Rattle.agent.specs.Altered.{Alters}
 use Rattle.model.specs.State.{requeued}
-use Rattle.agent.proofs.AlteredLaws.{list-short}
 use Rattle.agent.proofs.CountLaws.{counts-parts}
-use Rattle.agent.proofs.TurnLaws.{replies-as, ended-after, plan-read}
+use Rattle.agent.proofs.GivesLaws.{replies-as}
+use Rattle.agent.proofs.TurnLaws.{ended-after}
 use Rattle.model.specs.declared.Instance.{Instance}
 use Rattle.agent.proofs.ends.fail.Statement.{statement}
 use Rattle.agent.proofs.ends.fail.Tie as tie
@@ -30,16 +31,16 @@ list-run-requires c κs =
     let a = (c .before .before .before .before .before .args) in
     let plan = a .stack .top .plan in
     let bytes = now (a .library) in
-    (list-short (layout.planOf bytes plan) false (plan-ok bytes ((c .before .before .before .before .before .pre) .accepted) plan ((c .before .before .before .before .before .pre) .plan)), counts-parts (a .s) ((c .before .before .before .before .before .pre) .standing .counts) .beliefs)
+    (few-actions (layout.planOf bytes plan .failure) (keeps bytes ((c .before .before .before .before .before .pre) .accepted) plan ((c .before .before .before .before .before .pre) .plan) .failure), counts-parts (a .s) ((c .before .before .before .before .before .pre) .standing .counts) .beliefs)
 
 served-by-requires : tie.Need-served-by-requires
 served-by-requires c κs = search needs
 
-with-marked-requires : tie.Need-with-marked-requires
-with-marked-requires c κs = ((c .before .before .before .before .before .before .before .pre) .standing, omega (arith, few-plans (now ((c .before .before .before .before .before .before .before .args) .library)) ((c .before .before .before .before .before .before .before .pre) .accepted), (c .before .before .before .before .before .before .before .pre) .plan))
+settled-requires : tie.Need-settled-requires
+settled-requires c κs = ((c .before .before .before .before .before .before .before .pre) .standing, omega (arith, few-plans (now ((c .before .before .before .before .before .before .before .args) .library)) ((c .before .before .before .before .before .before .before .pre) .accepted), (c .before .before .before .before .before .before .before .pre) .plan))
 
 lowered-requires : tie.Need-lowered-requires
-lowered-requires c κs = ((c .with-marked) .ensures .standing, (c .before .before .list-run) .ensures .few)
+lowered-requires c κs = ((c .settled) .ensures .standing, (c .before .before .list-run) .ensures .few)
 
 returns : tie.Need-returns
 unfolding fail endTop
@@ -49,9 +50,9 @@ returns c =
     let bytes = now (a .library) in
     let actions = planOf (libraryOf bytes) x .failure in
     let queue = markEvent (x .plan) (servedBy (viewStack (a .stack))) (viewQueue (a .s)) in
-    let alters : Alters (a .s .beliefs) (effects (view (a .s .beliefs)) (x .env) actions) ((c .before .before .before .list-run) .result) = rw (plan-read bytes x ((c .before .before .before .before .before .before .before .before .before .pre) .plan)) ((c .before .before .before .list-run) .ensures) in
-    let shown : viewState ((c .before .with-marked) .result) ≡ requeued (viewState (a .s)) queue = rw ((c .before .before .served-by) .ensures) at ((c .before .with-marked) .ensures .shown) in
-    replies-as (ended-after (a .s) ((c .before .with-marked) .result) (a .place) (a .stack) (popped (a .stack .external) (λ (below : Instance). below) (viewStack (a .stack) .below)) (Failed (x .id))
+    let alters : Alters (a .s .beliefs) (effects (view (a .s .beliefs)) (x .env) actions) ((c .before .before .before .list-run) .result) = rw (plan-there bytes x (planCount bytes) refl ((c .before .before .before .before .before .before .before .before .before .pre) .plan)) ((c .before .before .before .list-run) .ensures) in
+    let shown : viewState ((c .before .settled) .result) ≡ requeued (viewState (a .s)) queue = rw ((c .before .before .served-by) .ensures) at ((c .before .settled) .ensures .shown) in
+    replies-as (ended-after (a .s) ((c .before .settled) .result) (a .place) (a .stack) (popped (a .stack .external) (λ (below : Instance). below) (viewStack (a .stack) .below)) (Failed (x .id))
     (effects (view (a .s .beliefs)) (x .env) actions) queue ((c .before .before .before .list-run) .result) alters shown)
     ((c .lowered) .ensures)
 
@@ -62,6 +63,6 @@ fail-spec =
     cast-list-run
     list-run-requires
     served-by-requires
-    with-marked-requires
+    settled-requires
     lowered-requires
     returns)

@@ -10,7 +10,8 @@ use Rattle.state.specs.View.{depthOf, viewState}
 use Rattle.state.specs.Stacks.{pop}
 use Rattle.state.proofs.StackLaws.{pop-none}
 use Rattle.agent.specs.Turnable.{ended}
-use Rattle.agent.proofs.TurnLaws.{replies-as, pops}
+use Rattle.agent.proofs.GivesLaws.{replies-as}
+use Rattle.agent.proofs.TurnLaws.{pops}
 use Rattle.agent.proofs.ends.lowered.Statement.{statement}
 use Rattle.agent.proofs.ends.lowered.Tie as tie
 

@@ -12,7 +12,8 @@ use Rattle.state.specs.View.{depthOf, viewState}
 use Rattle.state.specs.Stacks.{pop}
 use Rattle.state.proofs.StackLaws.{pop-none}
 use Rattle.agent.specs.Turnable.{ended}
-use Rattle.agent.proofs.TurnLaws.{replies-as, pops}
+use Rattle.agent.proofs.GivesLaws.{replies-as}
+use Rattle.agent.proofs.TurnLaws.{pops}
 use Rattle.agent.proofs.ends.raised.Statement.{statement}
 use Rattle.agent.proofs.ends.raised.Tie as tie
 
@@ -33,17 +34,15 @@ returns c =
 under-top-requires : tie.Need-under-top-requires
 under-top-requires c κs = search needs
 
-past-goal-requires : tie.Need-past-goal-requires
-past-goal-requires c κs =
-    let above : 0 < depthOf ((c .before .before .before .before .args) .stack) = omega (arith, (c .before .before .depth-of) .ensures, (c .before .if1)) in
-    rw ((c .under-top) .ensures) ((c .before .before .before .before .pre) .1 .1 above)
+past-branch-requires : tie.Need-past-branch-requires
+past-branch-requires c κs = search needs
 
 popped-requires : tie.Need-popped-requires
 popped-requires c κs = search needs
 
 turned-requires : tie.Need-turned-requires
 unfolding pop
-turned-requires c κs = ((c .before .before .before .before .before .before .pre) .0, (rw ((c .popped) .ensures) (omega arith), (c .before .before .before .before .before .before .pre) .1 .0))
+turned-requires c κs = ((c .before .before .before .before .before .before .pre) .0, (rw ((c .popped) .ensures) (omega arith), (c .before .before .before .before .before .before .pre) .1))
 
 returns-2 : tie.Need-returns-2
 returns-2 c =
@@ -51,7 +50,7 @@ returns-2 c =
     let above : 0 < depthOf (a .stack) = omega (arith, (c .before .before .before .before .before .depth-of) .ensures, (c .before .before .before .before .if1)) in
     let change = pastBranch (libraryOf (now (a .library))) in
     replies-as (ap (λ (ks : List Intention). ended (viewState (a .s)) (a .place) ks (a .answer) (a .altered))
-    (pops (a .stack) ((c .before .popped) .result) change ((c .before .before .past-goal) .result) above ((c .before .popped) .ensures) ((c .before .before .past-goal) .ensures ∙ ap change ((c .before .before .before .under-top) .ensures))))
+    (pops (a .stack) ((c .before .popped) .result) change ((c .before .before .past-branch) .result) above ((c .before .popped) .ensures) ((c .before .before .past-branch) .ensures ∙ ap change ((c .before .before .before .under-top) .ensures))))
     ((c .turned) .ensures)
 
 pub raised-spec : {M : Type 1} → statement M
@@ -62,7 +61,7 @@ raised-spec =
     emptied-requires
     returns
     under-top-requires
-    past-goal-requires
+    past-branch-requires
     popped-requires
     turned-requires
     returns-2)

@@ -1,22 +1,24 @@
 -- `agent::ends::succeed` meets its contract: the list runs, the event is closed, and the poster below steps past its goal.
 use borrow.Author.Needs.{needs}
+use native.Mathlib.Omega.{arith}
 use denote.Ref.{now}
-use mathlib.Core.Path.{_≡_}
+use mathlib.Core.Path.{_≡_, refl}
 use Rattle.belief.specs.Beliefs.{view}
-use Rattle.library.specs.Layout.{libraryOf}
+use Rattle.library.specs.Layout.{planCount, libraryOf}
 use Rattle.library.specs.Layout as layout
-use Rattle.library.proofs.Accepted.{plan-ok}
+use Rattle.library.proofs.RuleFacts.{few-actions}
+use Rattle.library.proofs.Accepted.{few-plans, keeps}
 use Rattle.model.specs.Changes.{effects}
-use mathlib.Core.Bool.{true}
 use Rattle.model.specs.declared.Answer.the-variants.{Succeeded}
 use Rattle.model.specs.Instance.{planOf, pastBranch}
 use Rattle.model.specs.End.{servedBy, closeEvent, popped, endTop, succeed}
 use Rattle.state.specs.View.{viewStack, viewQueue, viewState}
+use Rattle.jobs.proofs.PlaceLaws.{plan-there}
 use Rattle.agent.specs.Altered.{Alters}
 use Rattle.model.specs.State.{requeued}
-use Rattle.agent.proofs.AlteredLaws.{list-short}
 use Rattle.agent.proofs.CountLaws.{counts-parts}
-use Rattle.agent.proofs.TurnLaws.{replies-as, ended-after, plan-read}
+use Rattle.agent.proofs.GivesLaws.{replies-as}
+use Rattle.agent.proofs.TurnLaws.{ended-after}
 use Rattle.agent.proofs.ends.succeed.Statement.{statement}
 use Rattle.agent.proofs.ends.succeed.Tie as tie
 
@@ -28,16 +30,16 @@ list-run-requires c κs =
     let a = (c .before .before .before .before .before .args) in
     let plan = a .stack .top .plan in
     let bytes = now (a .library) in
-    (list-short (layout.planOf bytes plan) true (plan-ok bytes ((c .before .before .before .before .before .pre) .accepted) plan ((c .before .before .before .before .before .pre) .plan)), counts-parts (a .s) ((c .before .before .before .before .before .pre) .standing .counts) .beliefs)
+    (few-actions (layout.planOf bytes plan .success) (keeps bytes ((c .before .before .before .before .before .pre) .accepted) plan ((c .before .before .before .before .before .pre) .plan) .success), counts-parts (a .s) ((c .before .before .before .before .before .pre) .standing .counts) .beliefs)
 
 served-by-requires : tie.Need-served-by-requires
 served-by-requires c κs = search needs
 
-with-closed-requires : tie.Need-with-closed-requires
-with-closed-requires c κs = (c .before .before .before .before .before .before .before .pre) .standing
+settled-requires : tie.Need-settled-requires
+settled-requires c κs = ((c .before .before .before .before .before .before .before .pre) .standing, omega (arith, few-plans (now ((c .before .before .before .before .before .before .before .args) .library)) ((c .before .before .before .before .before .before .before .pre) .accepted), (c .before .before .before .before .before .before .before .pre) .plan))
 
 raised-requires : tie.Need-raised-requires
-raised-requires c κs = ((c .with-closed) .ensures .standing, ((c .before .before .list-run) .ensures .few, (c .before .before .before .before .before .before .before .before .pre) .poster))
+raised-requires c κs = ((c .settled) .ensures .standing, (c .before .before .list-run) .ensures .few)
 
 returns : tie.Need-returns
 unfolding succeed endTop
@@ -47,9 +49,9 @@ returns c =
     let bytes = now (a .library) in
     let actions = planOf (libraryOf bytes) x .success in
     let queue = closeEvent (servedBy (viewStack (a .stack))) (viewQueue (a .s)) in
-    let alters : Alters (a .s .beliefs) (effects (view (a .s .beliefs)) (x .env) actions) ((c .before .before .before .list-run) .result) = rw (plan-read bytes x ((c .before .before .before .before .before .before .before .before .before .pre) .plan)) ((c .before .before .before .list-run) .ensures) in
-    let shown : viewState ((c .before .with-closed) .result) ≡ requeued (viewState (a .s)) queue = rw ((c .before .before .served-by) .ensures) at ((c .before .with-closed) .ensures .shown) in
-    replies-as (ended-after (a .s) ((c .before .with-closed) .result) (a .place) (a .stack) (popped (a .stack .external) (pastBranch (libraryOf bytes)) (viewStack (a .stack) .below)) (Succeeded (x .id))
+    let alters : Alters (a .s .beliefs) (effects (view (a .s .beliefs)) (x .env) actions) ((c .before .before .before .list-run) .result) = rw (plan-there bytes x (planCount bytes) refl ((c .before .before .before .before .before .before .before .before .before .pre) .plan)) ((c .before .before .before .list-run) .ensures) in
+    let shown : viewState ((c .before .settled) .result) ≡ requeued (viewState (a .s)) queue = rw ((c .before .before .served-by) .ensures) at ((c .before .settled) .ensures .shown) in
+    replies-as (ended-after (a .s) ((c .before .settled) .result) (a .place) (a .stack) (popped (a .stack .external) (pastBranch (libraryOf bytes)) (viewStack (a .stack) .below)) (Succeeded (x .id))
     (effects (view (a .s .beliefs)) (x .env) actions) queue ((c .before .before .before .list-run) .result) alters shown)
     ((c .raised) .ensures)
 
@@ -60,6 +62,6 @@ succeed-spec =
     cast-list-run
     list-run-requires
     served-by-requires
-    with-closed-requires
+    settled-requires
     raised-requires
     returns)

@@ -2,7 +2,7 @@
 use borrow.Author.Needs.{needs}
 use mathlib.Core.Path.{refl}
 use denote.Ref.{now}
-use Rattle.agent.specs.TakeUp.{eventAt}
+use Rattle.agent.specs.View.{eventAt}
 use Rattle.agent.proofs.TakeUpLaws.{closed, refused, made}
 use Rattle.agent.proofs.event.take_up.Statement.{statement}
 use Rattle.agent.proofs.event.take_up.Tie as tie

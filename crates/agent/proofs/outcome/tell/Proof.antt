@@ -3,8 +3,9 @@ use borrow.Author.Needs.{needs}
 use native.Mathlib.Omega.{arith}
 use mathlib.Core.Path.{_≡_}
 use lib.ListN.{length}
+use Rattle.library.specs.Layout.{libraryOf}
 use Rattle.lists.proofs.ArrayLaws.{length-mapped}
-use Rattle.agent.proofs.OutcomeLaws.{told-refused, told-worked, told-failed, waiting-plan}
+use Rattle.agent.proofs.OutcomeLaws.{told-refused, told-worked, told-failed}
 use Rattle.agent.proofs.outcome.tell.Statement.{statement}
 use Rattle.agent.proofs.outcome.tell.Tie as tie
 
@@ -22,7 +23,7 @@ returns c =
     let a = (c .before .before .before .before .before .args) in
     let p = (c .before .before .before .before .before .pre) in
     let len : length (a .t2 .stacks) ≡ 8 = search (needs, length-mapped, (c .before .before .before .before .before .good)) in
-    told-refused (a .library .now) (a .t2) (a .id) (a .worked) ((c .before .before .before .waiting-place) .result) ((c .before .before .before .waiting-place) .ensures) len (p .fit) (omega (arith, (c .before .before .stacked-of) .ensures)) ((c .acted) .result) ((c .acted) .ensures)
+    told-refused (libraryOf (a .library .now)) (a .t2) (a .id) (a .worked) ((c .before .before .before .waiting-place) .result) ((c .before .before .before .waiting-place) .ensures) len p (omega (arith, (c .before .before .stacked-of) .ensures)) ((c .acted) .result) ((c .acted) .ensures)
 
 mul-stack : tie.Need-mul-stack
 mul-stack c = search needs
@@ -31,16 +32,13 @@ element-copy-out-stack : tie.Need-element-copy-out-stack
 element-copy-out-stack c = search needs
 
 step-on-requires : tie.Need-step-on-requires
-step-on-requires c κs =
-    let a = (c .before .before .before .before .before .before .args) in
-    let len : length (a .t2 .stacks) ≡ 8 = search (needs, length-mapped, (c .before .before .before .before .before .before .good)) in
-    waiting-plan (a .library .now) (a .t2) (a .id) ((c .before .before .before .before .waiting-place) .result) ((c .before .before .before .before .waiting-place) .ensures) ((c .before .before .before .before .before .before .pre)) len _ (omega (arith, (c .before .before .before .stacked-of) .ensures))
+step-on-requires c κs = search needs
 
 returns-2 : tie.Need-returns-2
 returns-2 c =
     let a = (c .before .before .before .before .before .before .before .args) in
     let len : length (a .t2 .stacks) ≡ 8 = search (needs, length-mapped, (c .before .before .before .before .before .before .before .good)) in
-    told-worked (a .library .now) (a .t2) (a .id) (a .worked) ((c .before .before .before .before .before .waiting-place) .result) ((c .before .before .before .before .before .waiting-place) .ensures) len ((c .before .before .before .before .before .before .before .pre) .fit) (omega (arith, (c .before .before .before .before .stacked-of) .ensures)) _ ((c .before .if2) .taken) ((c .step-on) .result) ((c .step-on) .ensures)
+    told-worked (libraryOf (a .library .now)) (a .t2) (a .id) (a .worked) ((c .before .before .before .before .before .waiting-place) .result) ((c .before .before .before .before .before .waiting-place) .ensures) len ((c .before .before .before .before .before .before .before .pre)) (omega (arith, (c .before .before .before .before .stacked-of) .ensures)) _ ((c .before .if2) .taken) ((c .step-on) .result) ((c .step-on) .ensures)
 
 miss-requires : tie.Need-miss-requires
 miss-requires c κs = search needs
@@ -49,7 +47,7 @@ returns-3 : tie.Need-returns-3
 returns-3 c =
     let a = (c .before .before .before .before .before .before .before .args) in
     let len : length (a .t2 .stacks) ≡ 8 = search (needs, length-mapped, (c .before .before .before .before .before .before .before .good)) in
-    told-failed (a .library .now) (a .t2) (a .id) (a .worked) ((c .before .before .before .before .before .waiting-place) .result) ((c .before .before .before .before .before .waiting-place) .ensures) len ((c .before .before .before .before .before .before .before .pre) .fit) (omega (arith, (c .before .before .before .before .stacked-of) .ensures)) _ ((c .before .if2) .left) ((c .miss) .result) ((c .miss) .ensures)
+    told-failed (libraryOf (a .library .now)) (a .t2) (a .id) (a .worked) ((c .before .before .before .before .before .waiting-place) .result) ((c .before .before .before .before .before .waiting-place) .ensures) len ((c .before .before .before .before .before .before .before .pre)) (omega (arith, (c .before .before .before .before .stacked-of) .ensures)) _ ((c .before .if2) .left) ((c .miss) .result) ((c .miss) .ensures)
 
 pub tell-spec : {M : Type 1} → statement M
 tell-spec =

@@ -9,7 +9,8 @@ use Rattle.model.specs.declared.Instance.{Instance}
 use Rattle.model.specs.Try.{withTop, newGoal, tried}
 use Rattle.state.specs.View.{viewStack, viewQueue, viewState}
 use Rattle.agent.specs.Turnable.{ended, Requeues}
-use Rattle.agent.proofs.TurnLaws.{replies-as, enqueue-requeues, ended-after}
+use Rattle.agent.proofs.GivesLaws.{replies-as}
+use Rattle.agent.proofs.TurnLaws.{enqueue-requeues, ended-after}
 use Rattle.agent.proofs.turn.on_posted.Statement.{statement}
 use Rattle.agent.proofs.turn.on_posted.Tie as tie
 

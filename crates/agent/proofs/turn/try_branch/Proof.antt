@@ -11,7 +11,7 @@ use Rattle.state.proofs.StackLaws.{length-down}
 use Rattle.agent.specs.Trial.{Tries}
 use Rattle.agent.specs.Turnable.{placed}
 use Rattle.agent.proofs.CountLaws.{counts-parts}
-use Rattle.agent.proofs.TurnLaws.{replies-as}
+use Rattle.agent.proofs.GivesLaws.{replies-as}
 use Rattle.agent.proofs.turn.try_branch.Statement.{statement}
 use Rattle.agent.proofs.turn.try_branch.Tie as tie
 
