@@ -12,3 +12,5 @@ pub mod FormedFacts
 pub mod CycleLaws
 pub mod CallsLaws
 pub mod ChainLaws
+pub mod FeedLaws
+pub mod ProgressLaws

@@ -10,3 +10,4 @@ pub mod Turnable
 pub mod Cycle
 pub mod Calls
 pub mod Chain
+pub mod Feed

@@ -24,7 +24,7 @@ fn refuse(s: State) -> Acted
 }
 
 // Whether the library in the first `length` bytes is accepted and the state well formed.
-fn is_well_formed(library: &[u8], length: usize, s: State) -> bool
+pub(crate) fn is_well_formed(library: &[u8], length: usize, s: State) -> bool
     ensures { λ r. ⌜ r ≡ isWellFormedWith (now (library .entry)) length s ⌝ }
 {
     if library.len() < length {

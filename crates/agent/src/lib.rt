@@ -9,6 +9,7 @@ mod cycle; // one cycle
 mod ends; // success and failure
 mod event; // taking up a pending event
 mod instance; // an instance moves on
+pub mod feed; // a chunk of the journal
 pub mod load; // a library becomes an agent
 mod outcome; // the outcome of an external action
 mod report; // a report of a device

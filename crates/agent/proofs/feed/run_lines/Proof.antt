@@ -1,0 +1,110 @@
+-- `agent::feed::run_lines` meets its contract. The loop's invariant: what is read was run and printed, and what is trusted of the state still holds.
+use borrow.Author.Needs.{needs}
+use native.Mathlib.Omega.{arith}
+use Prim.Native.Nat.{_-_, _≤_}
+use mathlib.Core.Path.{_≡_, refl, ap, sym, _∙_}
+use lib.ListN.{length}
+use Rattle.stream.specs.Calls.{shown}
+use Rattle.stream.proofs.ChunkLaws.{line-moves}
+use Rattle.agent.specs.Feed.{Trusted, Progress}
+use Rattle.agent.proofs.FeedLaws.{trusted-next}
+use Rattle.agent.proofs.ProgressLaws.{progress-start, progress-line, progress-used}
+use Rattle.agent.proofs.feed.run_lines.Statement.{statement}
+use Rattle.agent.proofs.feed.run_lines.Tie as tie
+
+abbrev Inv-loop : tie.InvT-loop
+Inv-loop library formed chunk out₀ state₀ held₀ read₀ wrote₀ out state held read wrote =
+    (read ≤ length chunk) × (wrote ≤ length out) × (length out ≡ length out₀) × Trusted formed library state
+    × Progress library formed state₀ held₀ chunk out₀ out state held read wrote
+
+abbrev μ-loop : tie.MeasureT-loop
+μ-loop library formed chunk out₀ state₀ held₀ read₀ wrote₀ out state held read wrote = length chunk - read
+
+loop-holds : tie.Need-loop-holds Inv-loop μ-loop
+loop-holds c = (omega arith, omega arith, refl, (c .before .before .before .pre), progress-start _ _ _ _ _ _)
+
+sub-if1 : tie.Need-sub-if1 Inv-loop μ-loop
+sub-if1 c = search needs
+
+same-length : tie.Need-same-length Inv-loop μ-loop
+same-length c = search needs
+
+returns : tie.Need-returns Inv-loop μ-loop
+returns c = record { progress = (c .before .before .loop) .inv .4; within = (c .before .before .loop) .inv .0; whole = λ h. omega arith }
+
+next-line-requires : tie.Need-next-line-requires Inv-loop μ-loop
+next-line-requires c κs = search needs
+
+enum-known-call : tie.Need-enum-known-call Inv-loop μ-loop
+enum-known-call c = search needs
+
+enum-told : tie.Need-enum-told Inv-loop μ-loop
+enum-told c = search needs
+
+carried-requires : tie.Need-carried-requires Inv-loop μ-loop
+carried-requires c κs = search needs
+
+same-length-2 : tie.Need-same-length-2 Inv-loop μ-loop
+same-length-2 c = search needs
+
+returns-2 : tie.Need-returns-2 Inv-loop μ-loop
+returns-2 c =
+    let told = sym (ap shown ((c .before .enum-told) .given .1)) ∙ (c .before .before .before .next-line) .ensures in
+    record { progress = progress-used _ _ _ _ _ _ ((c .before .before .before .before .before .before .loop) .inv .4) told ((c .carried) .result) ((c .carried) .ensures); within = omega arith; whole = λ h. absurd (omega arith) }
+
+respond-requires : tie.Need-respond-requires Inv-loop μ-loop
+respond-requires c κs = (c .before .before .before .before .before .before .loop) .inv .3
+
+print-result-requires : tie.Need-print-result-requires Inv-loop μ-loop
+print-result-requires c κs = search needs
+
+no-line-requires : tie.Need-no-line-requires Inv-loop μ-loop
+no-line-requires c κs = search needs
+
+loop-less : tie.Need-loop-less Inv-loop μ-loop
+loop-less c =
+    let l = (c .before .before .before .before .before .before .before .before .before .before .before .before .before .before .loop) in
+    let g = (c .before .before .before .before .before .before .before .before .before .call) .given in
+    let told = sym (ap shown (g .1)) ∙ (c .before .before .before .before .before .before .before .before .before .before .before .next-line) .ensures in
+    let moves = line-moves _ (l .read) (l .held) (g .0 .0) (g .0 .1 .0) told in
+    omega (arith, moves .0, moves .1)
+
+loop-again : tie.Need-loop-again Inv-loop μ-loop
+loop-again c =
+    let l = (c .before .before .before .before .before .before .before .before .before .before .before .before .before .before .loop) in
+    let g = (c .before .before .before .before .before .before .before .before .before .call) .given in
+    let told = sym (ap shown (g .1)) ∙ (c .before .before .before .before .before .before .before .before .before .before .before .next-line) .ensures in
+    let moves = line-moves _ (l .read) (l .held) (g .0 .0) (g .0 .1 .0) told in
+    let w = (c .before .before .before .print-result) .ensures .line (omega arith) in
+    let kept = (c .before .before .before .print-result) .kept .0 in
+    (moves .1, omega (arith, w .within, kept), kept ∙ l .inv .2, trusted-next _ _ _ (l .inv .3) _ ((c .before .before .before .before .before .before .before .respond) .result) ((c .before .before .before .before .before .before .before .respond) .ensures), progress-line _ _ _ _ _ _ (l .inv .4) (g .0 .0) (g .0 .1 .0) told ((c .before .before .before .before .before .before .before .respond) .result) ((c .before .before .before .before .before .before .before .respond) .ensures) w ((c .no-line) .result) ((c .no-line) .ensures))
+
+same-length-3 : tie.Need-same-length-3 Inv-loop μ-loop
+same-length-3 c = search needs
+
+returns-3 : tie.Need-returns-3 Inv-loop μ-loop
+returns-3 c = record { progress = (c .before .loop) .inv .4; within = (c .before .loop) .inv .0; whole = λ h. absurd (omega arith) }
+
+pub run-lines-spec : {M : Type 1} → statement M
+run-lines-spec =
+    tie.close
+    (tie.spec
+    Inv-loop
+    μ-loop
+    loop-holds
+    sub-if1
+    same-length
+    returns
+    next-line-requires
+    enum-known-call
+    enum-told
+    carried-requires
+    same-length-2
+    returns-2
+    respond-requires
+    print-result-requires
+    no-line-requires
+    loop-less
+    loop-again
+    same-length-3
+    returns-3)

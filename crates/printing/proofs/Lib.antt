@@ -1,0 +1,9 @@
+pub mod DecimalLaws
+pub mod WritingLaws
+pub mod TextLaws
+pub mod TryLaws
+pub mod LineLaws
+pub mod ReadBack
+pub mod LineInjective
+pub mod ResultInjective
+pub mod Cases

@@ -1,0 +1,4 @@
+pub mod Decimal
+pub mod LineText
+pub mod Writing
+pub mod Cases

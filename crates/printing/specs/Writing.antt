@@ -1,0 +1,25 @@
+-- What writing a text into a lent buffer makes of it, and what printing a result does (document 01, "Journal").
+use Prim.Native.Nat.{ℕ, _+_, _≤_, _<_}
+use mathlib.Core.Path.{_≡_}
+use mathlib.Core.Bool.{true}
+use mathlib.Core.List.{List}
+use lib.ListN.{length}
+use lib.Seq.{sets}
+use Rattle.model.specs.State.{Result}
+use Rattle.printing.specs.LineText.{resultText, mostLine, fits}
+
+-- the text, of at most `most` bytes, stands from `at` up to `next`, and every other byte is as it was
+pub record Wrote (most : ℕ) (before after : List ℕ) (at next : ℕ) (text : List ℕ) : Type 0 where
+  pub bytes : after ≡ sets before at text
+  pub past : next ≡ at + length text
+  pub within : next ≤ at + most
+
+-- what printing a result does to the buffer, and the place past what was written
+pub record Prints (before after : List ℕ) (at next : ℕ) (result : Result) : Type 0 where
+  -- where there is room for the longest line, the result's text is written
+  pub line : at + mostLine ≤ length before → Wrote mostLine before after at next (resultText result)
+  -- and its literals have heads of 16 bits, so that no other result has this text
+  pub fit : at + mostLine ≤ length before → fits result ≡ true
+  -- else nothing is written
+  pub unwritten : length before < at + mostLine → after ≡ before
+  pub unmoved : length before < at + mostLine → next ≡ at

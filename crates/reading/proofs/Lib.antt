@@ -1,0 +1,6 @@
+pub mod NumberLaws
+pub mod PlaceLaws
+pub mod CallLaws
+pub mod LongLines
+pub mod PrintedLaws
+pub mod SmallCases

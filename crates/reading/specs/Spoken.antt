@@ -1,0 +1,11 @@
+-- What the code answers for a line, as one of the model's calls (document 01, "Journal").
+use mathlib.Core.Option.{Option, none, some}
+use Rattle.model.specs.State.{Call, report, cycle, outcome}
+use Rattle.reading.specs.declared.Spoken.{Spoken}
+use Rattle.reading.specs.declared.Spoken.the-variants.{Report, Cycle, Outcome, Unreadable}
+
+abbrev pub meaning : Spoken → Option Call
+meaning (Report kind literal) = some (report kind literal)
+meaning Cycle = some cycle
+meaning (Outcome id worked) = some (outcome id worked)
+meaning Unreadable = none

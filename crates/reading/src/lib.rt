@@ -1,0 +1,220 @@
+// A line of the input, without its newline, to a call.
+ghost use mathlib.Core.Path.{_≡_};
+ghost use Prim.Native.Nat.{_≤_};
+ghost use lib.ListN.{length};
+ghost use Rattle.reading.specs.Call.{number, headOf, termsOf, reportOf, outcomeOf, callOf};
+ghost use Rattle.reading.specs.Spoken.{meaning};
+ghost use Rattle.reading.specs.Places.{left, DigitsAt, Reads};
+use literal::Literal;
+
+// The longest readable line has this many bytes.
+const MOST_LINE: usize = 32;
+
+const MOST_DIGITS: usize = 5;
+
+const LARGEST_NUMBER: u32 = 65535;
+
+const LARGEST_PREDICATE: u32 = 32767;
+
+// What a negative literal's head has above its predicate.
+const NEGATIVE: u16 = 32768;
+
+// What a line says: one of the three calls, or nothing.
+pub enum Spoken {
+    Report { kind: u16, literal: Literal },
+    Cycle,
+    Outcome { id: u16, worked: bool },
+    Unreadable,
+}
+
+// Digits from a place on: the number that they say, and where they stop.
+struct Digits {
+    value: u32,
+    stop: usize,
+}
+
+// A field that is a number, and where the next field begins: one past the line's end where there is none.
+enum Numeral {
+    Is(u16, usize),
+    Bad,
+}
+
+// At most five digits from a place on.
+fn digits_at(s: &[u8], at: usize) -> Digits
+    ensures { λ r. ⌜ DigitsAt (now (s .entry)) at r ⌝ }
+{
+    let mut value: u32 = 0;
+    let mut i = at;
+    while i < s.len() {
+        if MOST_DIGITS <= i - at {
+            return Digits {
+                value: value,
+                stop: i,
+            };
+        }
+        let b = s[i];
+        if b < b'0' {
+            return Digits {
+                value: value,
+                stop: i,
+            };
+        }
+        if b'9' < b {
+            return Digits {
+                value: value,
+                stop: i,
+            };
+        }
+        value = value * 10 + (b - b'0') as u32;
+        i += 1;
+    }
+    Digits {
+        value: value,
+        stop: i,
+    }
+}
+
+// The field from a place on, as a number of at most so much.
+fn number_at(s: &[u8], at: usize, most: u32) -> Numeral
+    requires { ⌜ (length (now s) ≤ 32) × (most ≤ 65535) ⌝ }
+    ensures { λ r. ⌜ Reads (number most) most (now (s .entry)) at r ⌝ }
+{
+    let digits = digits_at(s, at);
+    let stop = digits.stop;
+    if stop <= at {
+        return Numeral::Bad;
+    }
+    if most < digits.value {
+        return Numeral::Bad;
+    }
+    if s.len() <= stop {
+        return Numeral::Is(digits.value as u16, stop + 1);
+    }
+    if s[stop] != b' ' {
+        return Numeral::Bad;
+    }
+    Numeral::Is(digits.value as u16, stop + 1)
+}
+
+// The field from a place on, as a sign and a predicate.
+fn head_at(s: &[u8], at: usize) -> Numeral
+    requires { ⌜ length (now s) ≤ 32 ⌝ }
+    ensures { λ r. ⌜ Reads headOf 65535 (now (s .entry)) at r ⌝ }
+{
+    if s.len() <= at {
+        return Numeral::Bad;
+    }
+    let sign = s[at];
+    let Numeral::Is(predicate, next) = number_at(s, at + 1, LARGEST_PREDICATE) else {
+        return Numeral::Bad;
+    };
+    if sign == b'+' {
+        return Numeral::Is(predicate, next);
+    }
+    if sign == b'-' {
+        return Numeral::Is(predicate + NEGATIVE, next);
+    }
+    Numeral::Bad
+}
+
+// The three terms of a report, from a place on.
+fn terms_at(s: &[u8], at: usize, kind: u16, head: u16) -> Spoken
+    requires { ⌜ length (now s) ≤ 32 ⌝ }
+    ensures { λ r. ⌜ meaning r ≡ termsOf kind head (left (now (s .entry)) at) ⌝ }
+{
+    let Numeral::Is(first, second_at) = number_at(s, at, LARGEST_NUMBER) else {
+        return Spoken::Unreadable;
+    };
+    let Numeral::Is(second, third_at) = number_at(s, second_at, LARGEST_NUMBER) else {
+        return Spoken::Unreadable;
+    };
+    let Numeral::Is(third, next) = number_at(s, third_at, LARGEST_NUMBER) else {
+        return Spoken::Unreadable;
+    };
+    if next <= s.len() {
+        return Spoken::Unreadable;
+    }
+    let literal = Literal {
+        head: head,
+        first: first,
+        second: second,
+        third: third,
+    };
+    Spoken::Report {
+        kind: kind,
+        literal: literal,
+    }
+}
+
+// What stands after P.
+fn report_at(s: &[u8], at: usize) -> Spoken
+    requires { ⌜ length (now s) ≤ 32 ⌝ }
+    ensures { λ r. ⌜ meaning r ≡ reportOf (left (now (s .entry)) at) ⌝ }
+{
+    let Numeral::Is(kind, head_place) = number_at(s, at, LARGEST_NUMBER) else {
+        return Spoken::Unreadable;
+    };
+    let Numeral::Is(head, next) = head_at(s, head_place) else {
+        return Spoken::Unreadable;
+    };
+    terms_at(s, next, kind, head)
+}
+
+// What stands after O.
+fn outcome_at(s: &[u8], at: usize) -> Spoken
+    requires { ⌜ length (now s) ≤ 32 ⌝ }
+    ensures { λ r. ⌜ meaning r ≡ outcomeOf (left (now (s .entry)) at) ⌝ }
+{
+    let Numeral::Is(id, next) = number_at(s, at, LARGEST_NUMBER) else {
+        return Spoken::Unreadable;
+    };
+    if s.len() <= next {
+        return Spoken::Unreadable;
+    }
+    if next + 1 < s.len() {
+        return Spoken::Unreadable;
+    }
+    let b = s[next];
+    if b == b'1' {
+        return Spoken::Outcome {
+            id: id,
+            worked: true,
+        };
+    }
+    if b == b'0' {
+        return Spoken::Outcome {
+            id: id,
+            worked: false,
+        };
+    }
+    Spoken::Unreadable
+}
+
+// What a line says.
+pub fn read_call(line: &[u8]) -> Spoken
+    ensures { λ r. ⌜ meaning r ≡ callOf (now (line .entry)) ⌝ }
+{
+    if MOST_LINE < line.len() {
+        return Spoken::Unreadable;
+    }
+    if line.len() < 1 {
+        return Spoken::Unreadable;
+    }
+    let b = line[0];
+    if line.len() < 2 {
+        if b == b'C' {
+            return Spoken::Cycle;
+        }
+        return Spoken::Unreadable;
+    }
+    if line[1] != b' ' {
+        return Spoken::Unreadable;
+    }
+    if b == b'P' {
+        return report_at(line, 2);
+    }
+    if b == b'O' {
+        return outcome_at(line, 2);
+    }
+    Spoken::Unreadable
+}

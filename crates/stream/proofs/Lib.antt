@@ -1,0 +1,5 @@
+pub mod LineLaws
+pub mod CarryLaws
+pub mod ChunkLaws
+pub mod EveryLine
+pub mod SmallCases
