@@ -74,7 +74,8 @@ pub data Journal (a : Agent) : List (Option Call) → List ℕ → Agent → Typ
   unread : {calls : List (Option Call)} {text : List ℕ} {b : Agent} → Journal a calls text b
       → Journal a (calls ++ (none ∷ [])) (text ++ resultText unreadable) b
   -- another is a call
-  answered : {calls : List (Option Call)} {text : List ℕ} {b : Agent} → Journal a calls text b → (c : Call) (r : Replied) → Calls b c r
+  answered : {calls : List (Option Call)} {text : List ℕ} {b : Agent} → Journal a calls text b
+      → (c : Call) (r : Replied) → Calls b c r
       → Journal a (calls ++ (some c ∷ [])) (text ++ resultText (viewResult (r .result))) (r .agent)
 
 -- ---- A chunk
@@ -93,6 +94,7 @@ pub record Progress (bytes : List ℕ) (formed : Bool) (s : State) (carry : Carr
 pub record RunsChunk (bytes : List ℕ) (formed : Bool) (s : State) (carry : Carry) (chunk before after : List ℕ) (r : Ran) : Type 0 where
   pub progress : Progress bytes formed s carry chunk before after (r .state) (r .carry) (r .read) (r .wrote)
   pub within : r .read ≤ length chunk
+  pub room : r .wrote ≤ length after
   pub whole : r .read < length chunk → length after < r .wrote + mostLine
 
 -- the same for a library in the first bytes of an array, tested once
@@ -107,8 +109,10 @@ pub record RunsOn (library : List ℕ) (size : ℕ) (s : State) (carry : Carry) 
 pub record Feeds (a : Agent) (carry : Carry) (chunk before after : List ℕ) (r : Fed) : Type 0 where
   pub calls : List (Option Call)
   pub text : List ℕ
-  pub said : (rest : List ℕ) → callsFrom (begun carry) (chunk ++ rest) ≡ calls ++ callsFrom (begun (r .carry)) (drop (r .read) chunk ++ rest)
+  pub said : (rest : List ℕ)
+      → callsFrom (begun carry) (chunk ++ rest) ≡ calls ++ callsFrom (begun (r .carry)) (drop (r .read) chunk ++ rest)
   pub journal : Journal a calls text (r .agent)
   pub written : Wrote (r .wrote) before after 0 (r .wrote) text
   pub within : r .read ≤ length chunk
+  pub room : r .wrote ≤ length after
   pub whole : r .read < length chunk → length after < r .wrote + mostLine

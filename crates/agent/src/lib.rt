@@ -2,7 +2,7 @@
 use model::Answered;
 use state::State;
 
-mod answer; // what a call answers
+pub mod answer; // what a call answers
 pub mod calls; // report, cycle and outcome
 mod changes; // belief changes of a call
 mod cycle; // one cycle

@@ -30,7 +30,7 @@ same-length : tie.Need-same-length Inv-loop μ-loop
 same-length c = search needs
 
 returns : tie.Need-returns Inv-loop μ-loop
-returns c = record { progress = (c .before .before .loop) .inv .4; within = (c .before .before .loop) .inv .0; whole = λ h. omega arith }
+returns c = record { progress = (c .before .before .loop) .inv .4; within = (c .before .before .loop) .inv .0; room = (c .before .before .loop) .inv .1; whole = λ h. omega arith }
 
 next-line-requires : tie.Need-next-line-requires Inv-loop μ-loop
 next-line-requires c κs = search needs
@@ -50,7 +50,7 @@ same-length-2 c = search needs
 returns-2 : tie.Need-returns-2 Inv-loop μ-loop
 returns-2 c =
     let told = sym (ap shown ((c .before .enum-told) .given .1)) ∙ (c .before .before .before .next-line) .ensures in
-    record { progress = progress-used _ _ _ _ _ _ ((c .before .before .before .before .before .before .loop) .inv .4) told ((c .carried) .result) ((c .carried) .ensures); within = omega arith; whole = λ h. absurd (omega arith) }
+    record { progress = progress-used _ _ _ _ _ _ ((c .before .before .before .before .before .before .loop) .inv .4) told ((c .carried) .result) ((c .carried) .ensures); within = omega arith; room = omega arith; whole = λ h. absurd (omega arith) }
 
 respond-requires : tie.Need-respond-requires Inv-loop μ-loop
 respond-requires c κs = (c .before .before .before .before .before .before .loop) .inv .3
@@ -83,7 +83,7 @@ same-length-3 : tie.Need-same-length-3 Inv-loop μ-loop
 same-length-3 c = search needs
 
 returns-3 : tie.Need-returns-3 Inv-loop μ-loop
-returns-3 c = record { progress = (c .before .loop) .inv .4; within = (c .before .loop) .inv .0; whole = λ h. absurd (omega arith) }
+returns-3 c = record { progress = (c .before .loop) .inv .4; within = (c .before .loop) .inv .0; room = (c .before .loop) .inv .1; whole = λ h. absurd (omega arith) }
 
 pub run-lines-spec : {M : Type 1} → statement M
 run-lines-spec =

@@ -1,0 +1,47 @@
+-- `canarystand::print_refusal` meets its contract: what is written is a part of the output.
+use borrow.Author.Needs.{needs}
+use native.Mathlib.Omega.{arith}
+use lib.ListN.{length-take}
+use Rattle.canarystand.proofs.print_refusal.Statement.{statement}
+use Rattle.canarystand.proofs.print_refusal.Tie as tie
+
+plain-result-requires : tie.Need-plain-result-requires
+plain-result-requires c κs = search needs
+
+print-result-requires : tie.Need-print-result-requires
+print-result-requires c κs = search needs
+
+slice-reshare-prefix-write-all : tie.Need-slice-reshare-prefix-write-all
+slice-reshare-prefix-write-all c = search needs
+
+slice-aggregate-write-all : tie.Need-slice-aggregate-write-all
+slice-aggregate-write-all c = simp length-take (omega arith)
+
+write-all-requires : tie.Need-write-all-requires
+write-all-requires c κs = search needs
+
+same-length : tie.Need-same-length
+same-length c = search needs
+
+returns : tie.Need-returns
+returns c = search needs
+
+same-length-2 : tie.Need-same-length-2
+same-length-2 c = search needs
+
+returns-2 : tie.Need-returns-2
+returns-2 c = search needs
+
+pub print-refusal-spec : {M : Type 1} → statement M
+print-refusal-spec =
+    tie.close
+    (tie.spec
+    plain-result-requires
+    print-result-requires
+    slice-reshare-prefix-write-all
+    slice-aggregate-write-all
+    write-all-requires
+    same-length
+    returns
+    same-length-2
+    returns-2)

@@ -1,0 +1,128 @@
+// The journal program: loads the file "library" of its folder, and answers each line of standard input with a line.
+ghost use Rattle.io.specs.Counts.{Counts};
+use agent::Agent;
+use agent::answer;
+use agent::feed;
+use agent::load;
+use libc::STDIN_FILENO;
+use libc::STDOUT_FILENO;
+use model::Answer;
+use stream::Carry;
+use stream::Last;
+
+// The refusal of a library file that fills the buffer, whatever it holds.
+const TOO_LONG: u16 = 2;
+
+// The agent, the line so far, and whether there is more to read.
+struct Session {
+    agent: Agent,
+    carry: Carry,
+    goes_on: bool,
+}
+
+// ---- The library
+
+// How many bytes of the file are in the buffer; a file that cannot be read counts as empty.
+fn read_library(file: &mut [u8]) -> usize
+    ensures { λ r. ⌜ Counts r (now (file .exit)) ⌝ }
+{
+    let fd = os::open_read(&[b'l', b'i', b'b', b'r', b'a', b'r', b'y']);
+    if fd < 0 {
+        return 0;
+    }
+    let n = io::read_full(fd, file);
+    libc::close(fd);
+    n
+}
+
+fn print_refusal(number: u16, out: &mut [u8]) {
+    let result = answer::plain_result(Answer::Refused(number));
+    let n = printing::print_result(out, 0, result);
+    if n <= out.len() {
+        io::write_all(STDOUT_FILENO, &out[..n]);
+    }
+}
+
+// ---- The lines
+
+// The lines that end in a piece of input, each answered.
+fn answer_piece(piece: &[u8], s: Session, out: &mut [u8]) -> Session {
+    let mut agent = s.agent;
+    let mut carry = s.carry;
+    let mut at: usize = 0;
+    while at < piece.len() {
+        let fed = feed::feed(agent, carry, &piece[at..], out);
+        let n = fed.wrote;
+        let read = fed.read;
+        agent = fed.agent;
+        carry = fed.carry;
+        at += read;
+        if read == 0 || !io::write_all(STDOUT_FILENO, &out[..n]) {
+            return Session {
+                agent: agent,
+                carry: carry,
+                goes_on: false,
+            };
+        }
+    }
+    Session {
+        agent: agent,
+        carry: carry,
+        goes_on: true,
+    }
+}
+
+// The line that the input's end ends, as if a newline stood there.
+fn finish(s: Session, out: &mut [u8]) {
+    let carry = s.carry;
+    let Last::Line(_) = stream::last_line(carry) else {
+        return;
+    };
+    answer_piece(&[b'\n'], s, out);
+}
+
+// One read of whatever is there, so that each answer is written before more input is waited for.
+fn answer_some(s: Session, input: &mut [u8], out: &mut [u8]) -> Session {
+    let got = libc::read(STDIN_FILENO, input);
+    if got <= 0 {
+        finish(s, out);
+        return Session {
+            goes_on: false,
+            ..s
+        };
+    }
+    let n = io::count(got, input);
+    answer_piece(&input[..n], s, out)
+}
+
+// Every line. A proved loop has to end, so it counts its turns down from a number that no run uses up.
+fn answer_all(agent: Agent, input: &mut [u8], out: &mut [u8]) {
+    let carry = stream::no_line();
+    let mut s = Session {
+        agent: agent,
+        carry: carry,
+        goes_on: true,
+    };
+    let mut turns = u64::MAX;
+    while turns > 0 && s.goes_on {
+        s = answer_some(s, input, out);
+        turns -= 1;
+    }
+}
+
+fn main() {
+    let mut input = io::large_buffer();
+    let mut out = io::large_buffer();
+    let n = read_library(&mut input);
+    if n == input.len() {
+        print_refusal(TOO_LONG, &mut out);
+        return;
+    }
+    let loaded = load::load(&input[..n]);
+    if loaded.refusal != 0 {
+        print_refusal(loaded.refusal, &mut out);
+        return;
+    }
+    let agent = loaded.agent;
+    answer_all(agent, &mut input, &mut out);
+}
