@@ -6,8 +6,6 @@ use mathlib.Core.Path.{_≡_, refl, ap, sym, subst, subst⁻¹, _∙_}
 use mathlib.Core.Bool.{Bool, true, false, _&&_}
 use mathlib.Core.List.{List, [], _∷_}
 use lib.ListN.{length}
-use lib.Dec.{leb, eqb}
-use borrow.Author.Tests.{eqb-true}
 use Rattle.lists.specs.Counts.{Every}
 use Rattle.lists.proofs.BoolLaws.{by-cases, and-parts}
 use Rattle.literal.specs.declared.Literal.{Literal}
@@ -22,12 +20,10 @@ use Rattle.library.specs.Refusal.{refusalOf}
 use Rattle.model.specs.State.{AgentState, Call, Reply, viewResult}
 use Rattle.model.specs.Changes.{alters, effective, areEffective}
 use Rattle.model.specs.Calls.{callBy, call}
-use Rattle.model.specs.WellFormed.{isWellFormed}
 use Rattle.model.proofs.ChangeLaws.{effective-join}
 use Rattle.model.proofs.CallLaws.{promises}
 use Rattle.model.proofs.AcceptedLibrary.{acceptable}
-use Rattle.state.specs.View.{viewState, countsFit}
-use Rattle.formed.specs.Formed.{isStateFormed, isFormed}
+use Rattle.state.specs.View.{viewState}
 use Rattle.agent.specs.declared.Agent.{Agent}
 use Rattle.agent.specs.declared.Loaded.{Loaded}
 use Rattle.agent.specs.declared.Replied.{Replied}
@@ -35,6 +31,7 @@ use Rattle.agent.specs.Load.{bytesOf, Holds, Loads}
 use Rattle.agent.specs.Calls.{isWellFormedAgent, viewReplied, Calls}
 use Rattle.agent.specs.Chain.{Link, Chain}
 use Rattle.agent.specs.Chain as Chain
+use Rattle.agent.proofs.CallsLaws.{test-parts}
 use Rattle.agent.proofs.AlteredLaws.{change-removes, change-adds}
 use Rattle.change.specs.declared.Changed.{Changed}
 use Rattle.change.specs.Changes.{step, steps, changed}
@@ -52,14 +49,13 @@ record Tracks (a : Agent) (changes : List Change) (b : Agent) : Type 0 where
 module _ (a : Agent) (c : Call) (r : Replied) (h : Calls a c r) where
   -- a call on a well-formed agent is the model's
   call-formed : isWellFormedAgent a ≡ true → Tracks a (viewResult (r .result) .changes) (r .agent)
-  unfolding isWellFormedAgent isFormed isStateFormed call
+  unfolding call
   call-formed e =
       let library = libraryOf (bytesOf a) in
       let s = viewState (a .state) in
-      let held = and-parts (eqb (refusalOf (bytesOf a)) 0) (countsFit (a .state) && isWellFormed library s) (and-parts (leb (a .length) (length (a .library))) _ e .1) in
-      let formed = and-parts (countsFit (a .state)) (isWellFormed library s) (held .1) .1 in
-      let same : viewReplied r ≡ call library s c = h .means ∙ ap (λ (b : Bool). callBy b library s c) (e ∙ sym formed) in
-      let kept = promises library (acceptable (bytesOf a) (eqb-true (refusalOf (bytesOf a)) 0 (held .0))) s formed c in
+      let w = test-parts (a .library) (a .length) (a .state) e in
+      let same : viewReplied r ≡ call library s c = h .means ∙ ap (λ (b : Bool). callBy b library s c) (e ∙ sym (w .formed)) in
+      let kept = promises library (acceptable (bytesOf a) (w .accepted)) s (w .formed) c in
       record {
         effect = subst⁻¹ (λ (x : Reply). areEffective (s .beliefs) (x .result .changes) ≡ true) same (kept .effective);
         table = subst⁻¹ (λ (x : Reply). x .state .beliefs ≡ replay (s .beliefs) (x .result .changes)) same (kept .table);
