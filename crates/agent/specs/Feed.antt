@@ -7,7 +7,7 @@ use mathlib.Core.List.{List, [], _∷_, _++_}
 use lib.ListN.{length, take, drop}
 use Rattle.library.specs.Plan.{Library}
 use Rattle.library.specs.Layout.{libraryOf}
-use Rattle.model.specs.declared.Answer.the-variants.{Refused}
+use Rattle.model.specs.declared.Answer.the-variants.{Idle, Refused}
 use Rattle.model.specs.State.{AgentState, Call, Result, Reply, viewResult, refuse}
 use Rattle.model.specs.Calls.{isRefusal, callBy}
 use Rattle.state.specs.declared.State.{State}
@@ -22,7 +22,7 @@ use Rattle.agent.specs.declared.Agent.{Agent}
 use Rattle.agent.specs.declared.Replied.{Replied}
 use Rattle.agent.specs.declared.feed.Fed.{Fed}
 use Rattle.agent.specs.declared.feed.Ran.{Ran}
-use Rattle.agent.specs.View.{viewActed}
+use Rattle.agent.specs.View.{viewActed, plainly}
 use Rattle.agent.specs.Cycle.{WellFormedState}
 use Rattle.agent.specs.Calls.{isWellFormedWith, Calls}
 
@@ -53,6 +53,10 @@ pub record Responds (bytes : List ℕ) (formed : Bool) (s : State) (call : Optio
   pub refused : isRefusal (r .result .answer) ≡ true → r .state ≡ s
   -- every count stays within its array
   pub fit : formed ≡ true → countsFit (r .state) ≡ true
+
+-- the line is a cycle with nothing to do
+abbrev pub Rests : Bool → State → Option Call → Type 0
+Rests formed s call = (bytes : List ℕ) → Trusted formed bytes s → Responds bytes formed s call (plainly s Idle)
 
 -- what lines say, run one after the other on a state: the text of the results, and the state after them
 pub data Runs (bytes : List ℕ) (formed : Bool) (s : State) : List (Option Call) → List ℕ → State → Type 0 where

@@ -3,7 +3,7 @@ ghost use mathlib.Core.Path.{_≡_};
 ghost use mathlib.Core.Bool.{true};
 ghost use Rattle.reading.specs.Spoken.{meaning};
 ghost use Rattle.agent.specs.Cycle.{WellFormedState};
-ghost use Rattle.agent.specs.Feed.{refusalFor, Trusted, Responds, RunsChunk, RunsOn, Feeds};
+ghost use Rattle.agent.specs.Feed.{refusalFor, Trusted, Responds, Rests, RunsChunk, RunsOn, Feeds};
 use crate::Acted;
 use crate::Agent;
 use crate::answer;
@@ -81,6 +81,24 @@ fn respond(library: &[u8], formed: bool, s: State, spoken: Spoken) -> Acted
     answer::acted(s, Answer::Refused(refusal))
 }
 
+// Whether the line is a cycle that finds nothing to do: its answer is known without moving the state.
+fn is_idle(formed: bool, s: State, spoken: Spoken) -> bool
+    ensures { λ r. ⌜ (r ≡ true → Rests formed s (meaning spoken)) ⌝ }
+{
+    if !formed {
+        return false;
+    }
+    match spoken {
+        Spoken::Report {
+            kind: _,
+            literal: _,
+        } => false,
+        Spoken::Cycle => cycle::is_idle(s),
+        Spoken::Outcome { id: _, worked: _ } => false,
+        Spoken::Unreadable => false,
+    }
+}
+
 // ---- A chunk
 
 // Lines are run as long as the chunk has one and the output has room for the longest.
@@ -117,13 +135,18 @@ fn run_lines(
                 wrote: wrote,
             };
         };
+        held = stream::no_line();
+        read = at;
+        if is_idle(formed, state, call) {
+            let idle = answer::plain_result(Answer::Idle);
+            wrote = printing::print_result(out, wrote, idle);
+            continue;
+        }
         let acted = respond(library, formed, state, call);
         let after = acted.state;
         let result = acted.result;
         wrote = printing::print_result(out, wrote, result);
         state = after;
-        held = stream::no_line();
-        read = at;
     }
     Ran {
         state: state,

@@ -1,11 +1,18 @@
 -- `agent::feed::run_lines` meets its contract. The loop's invariant: what is read was run and printed, and what is trusted of the state still holds.
 use borrow.Author.Needs.{needs}
 use native.Mathlib.Omega.{arith}
-use Prim.Native.Nat.{_-_, _≤_}
+use Prim.Native.Nat.{ℕ, _-_, _≤_}
 use mathlib.Core.Path.{_≡_, refl, ap, sym, _∙_}
+use mathlib.Core.List.{List}
 use lib.ListN.{length}
+use Rattle.model.specs.declared.Answer.the-variants.{Idle}
+use Rattle.model.specs.declared.Answered.{Answered}
+use Rattle.model.specs.State.{viewResult}
+use Rattle.printing.specs.LineText.{resultText, mostLine}
+use Rattle.printing.specs.Writing.{Wrote}
 use Rattle.stream.specs.Calls.{shown}
 use Rattle.stream.proofs.ChunkLaws.{line-moves}
+use Rattle.agent.specs.View.{plainly}
 use Rattle.agent.specs.Feed.{Trusted, Progress}
 use Rattle.agent.proofs.FeedLaws.{trusted-next}
 use Rattle.agent.proofs.ProgressLaws.{progress-start, progress-line, progress-used}
@@ -50,23 +57,30 @@ same-length-2 c = search needs
 returns-2 : tie.Need-returns-2 Inv-loop μ-loop
 returns-2 c =
     let told = sym (ap shown ((c .before .enum-told) .given .1)) ∙ (c .before .before .before .next-line) .ensures in
-    record { progress = progress-used _ _ _ _ _ _ ((c .before .before .before .before .before .before .loop) .inv .4) told ((c .carried) .result) ((c .carried) .ensures); within = omega arith; room = omega arith; whole = λ h. absurd (omega arith) }
-
-respond-requires : tie.Need-respond-requires Inv-loop μ-loop
-respond-requires c κs = (c .before .before .before .before .before .before .loop) .inv .3
-
-print-result-requires : tie.Need-print-result-requires Inv-loop μ-loop
-print-result-requires c κs = search needs
+    record {
+      progress = progress-used _ _ _ _ _ _ ((c .before .before .before .before .before .before .loop) .inv .4) told ((c .carried) .result) ((c .carried) .ensures);
+      within = omega arith;
+      room = (c .before .before .before .before .before .before .loop) .inv .1;
+      whole = λ h. absurd (omega arith);
+    }
 
 no-line-requires : tie.Need-no-line-requires Inv-loop μ-loop
 no-line-requires c κs = search needs
+
+is-idle-requires : tie.Need-is-idle-requires Inv-loop μ-loop
+is-idle-requires c κs = search needs
+
+plain-result-requires : tie.Need-plain-result-requires Inv-loop μ-loop
+plain-result-requires c κs = search needs
+
+print-result-requires : tie.Need-print-result-requires Inv-loop μ-loop
+print-result-requires c κs = search needs
 
 loop-less : tie.Need-loop-less Inv-loop μ-loop
 loop-less c =
     let l = (c .before .before .before .before .before .before .before .before .before .before .before .before .before .before .loop) in
     let g = (c .before .before .before .before .before .before .before .before .before .call) .given in
-    let told = sym (ap shown (g .1)) ∙ (c .before .before .before .before .before .before .before .before .before .before .before .next-line) .ensures in
-    let moves = line-moves _ (l .read) (l .held) (g .0 .0) (g .0 .1 .0) told in
+    let moves = line-moves _ (l .read) (l .held) (g .0 .0) (g .0 .1 .0) (sym (ap shown (g .1)) ∙ (c .before .before .before .before .before .before .before .before .before .before .before .next-line) .ensures) in
     omega (arith, moves .0, moves .1)
 
 loop-again : tie.Need-loop-again Inv-loop μ-loop
@@ -75,9 +89,44 @@ loop-again c =
     let g = (c .before .before .before .before .before .before .before .before .before .call) .given in
     let told = sym (ap shown (g .1)) ∙ (c .before .before .before .before .before .before .before .before .before .before .before .next-line) .ensures in
     let moves = line-moves _ (l .read) (l .held) (g .0 .0) (g .0 .1 .0) told in
-    let w = (c .before .before .before .print-result) .ensures .line (omega arith) in
-    let kept = (c .before .before .before .print-result) .kept .0 in
-    (moves .1, omega (arith, w .within, kept), kept ∙ l .inv .2, trusted-next _ _ _ (l .inv .3) _ ((c .before .before .before .before .before .before .before .respond) .result) ((c .before .before .before .before .before .before .before .respond) .ensures), progress-line _ _ _ _ _ _ (l .inv .4) (g .0 .0) (g .0 .1 .0) told ((c .before .before .before .before .before .before .before .respond) .result) ((c .before .before .before .before .before .before .before .respond) .ensures) w ((c .no-line) .result) ((c .no-line) .ensures))
+    let answer = (c .before .before .before .before .plain-result) .ensures in
+    let w = rw answer at ((c .before .before .print-result) .ensures .line (omega arith)) in
+    let kept = (c .before .before .print-result) .kept .0 in
+    let rests = (c .before .before .before .before .before .before .is-idle) .ensures ((c .before .before .before .before .before .if2) .taken) _ (l .inv .3) in (
+      moves .1,
+      omega (arith, w .within, kept),
+      kept ∙ l .inv .2,
+      l .inv .3,
+      progress-line _ _ _ _ _ _ (l .inv .4) (g .0 .0) (g .0 .1 .0) told (plainly (l .state) Idle) rests w ((c .before .before .before .before .before .before .before .no-line) .result) ((c .before .before .before .before .before .before .before .no-line) .ensures),
+    )
+
+respond-requires : tie.Need-respond-requires Inv-loop μ-loop
+respond-requires c κs = (c .before .before .before .before .before .before .before .before .before .loop) .inv .3
+
+print-result-requires-2 : tie.Need-print-result-requires-2 Inv-loop μ-loop
+print-result-requires-2 c κs = search needs
+
+loop-less-2 : tie.Need-loop-less-2 Inv-loop μ-loop
+loop-less-2 c =
+    let l = (c .before .before .before .before .before .before .before .before .before .before .before .before .before .before .before .before .loop) in
+    let g = (c .before .before .before .before .before .before .before .before .before .before .before .call) .given in
+    let moves = line-moves _ (l .read) (l .held) (g .0 .0) (g .0 .1 .0) (sym (ap shown (g .1)) ∙ (c .before .before .before .before .before .before .before .before .before .before .before .before .before .next-line) .ensures) in
+    omega (arith, moves .0, moves .1)
+
+loop-again-2 : tie.Need-loop-again-2 Inv-loop μ-loop
+loop-again-2 c =
+    let l = (c .before .before .before .before .before .before .before .before .before .before .before .before .before .before .before .before .loop) in
+    let g = (c .before .before .before .before .before .before .before .before .before .before .before .call) .given in
+    let told = sym (ap shown (g .1)) ∙ (c .before .before .before .before .before .before .before .before .before .before .before .before .before .next-line) .ensures in
+    let moves = line-moves _ (l .read) (l .held) (g .0 .0) (g .0 .1 .0) told in
+    let w = (c .before .before .print-result2) .ensures .line (omega arith) in
+    let kept = (c .before .before .print-result2) .kept .0 in (
+      moves .1,
+      omega (arith, w .within, kept),
+      kept ∙ l .inv .2,
+      trusted-next _ _ _ (l .inv .3) _ ((c .before .before .before .before .before .before .respond) .result) ((c .before .before .before .before .before .before .respond) .ensures),
+      progress-line _ _ _ _ _ _ (l .inv .4) (g .0 .0) (g .0 .1 .0) told ((c .before .before .before .before .before .before .respond) .result) ((c .before .before .before .before .before .before .respond) .ensures) w ((c .before .before .before .before .before .before .before .before .before .no-line) .result) ((c .before .before .before .before .before .before .before .before .before .no-line) .ensures),
+    )
 
 same-length-3 : tie.Need-same-length-3 Inv-loop μ-loop
 same-length-3 c = search needs
@@ -101,10 +150,15 @@ run-lines-spec =
     carried-requires
     same-length-2
     returns-2
-    respond-requires
-    print-result-requires
     no-line-requires
+    is-idle-requires
+    plain-result-requires
+    print-result-requires
     loop-less
     loop-again
+    respond-requires
+    print-result-requires-2
+    loop-less-2
+    loop-again-2
     same-length-3
     returns-3)
