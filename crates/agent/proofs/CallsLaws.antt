@@ -15,7 +15,7 @@ use Rattle.state.specs.declared.State.{State}
 use Rattle.state.specs.View.{viewState, countsFit}
 use Rattle.formed.specs.Formed.{isStateFormed, isFormed}
 use Rattle.agent.specs.declared.Acted.{Acted}
-use Rattle.agent.specs.declared.Agent.{Agent}
+use Rattle.load.specs.declared.Agent.{Agent}
 use Rattle.agent.specs.declared.Replied.{Replied}
 use Rattle.agent.specs.Gives.{Gives}
 use Rattle.agent.specs.Cycle.{WellFormedState}

@@ -21,9 +21,9 @@ use Rattle.model.proofs.Demand3Proof.{chain-run, chain-demand-3, chain-never-te
 use Rattle.model.proofs.AcceptedLibrary.{acceptable, loaded-well-formed}
 use Rattle.state.specs.View.{viewState, countsFit}
 use Rattle.formed.specs.Formed.{isStateFormed, isFormed}
-use Rattle.agent.specs.declared.Agent.{Agent}
-use Rattle.agent.specs.declared.Loaded.{Loaded}
-use Rattle.agent.specs.Load.{bytesOf, Loads}
+use Rattle.load.specs.declared.Agent.{Agent}
+use Rattle.load.specs.declared.Loaded.{Loaded}
+use Rattle.load.specs.Load.{bytesOf, Loads}
 use Rattle.agent.specs.Calls.{isWellFormedWith, isWellFormedAgent, viewReplied, Calls}
 use Rattle.agent.specs.Chain.{Link, Chain, start, then, entryOf, entriesOf}
 

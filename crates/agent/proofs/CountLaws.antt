@@ -23,32 +23,8 @@ use Rattle.state.specs.declared.State.{State}
 use Rattle.state.specs.View.{mostBelow, queuedOf, stackedOf, countsFit}
 use Rattle.state.specs.Queue.{withQueue, enqueue, dequeue, putEvent}
 use Rattle.state.specs.Stacks.{withStacks, openLast, putAt, dropAt, turnLast}
+use Rattle.state.proofs.CountParts.{isShallow, Counts, counts-parts, counts-whole}
 use Rattle.agent.specs.View.{changedTo}
-
--- ---- The counts, one by one
-
-abbrev isShallow : Stack → Bool
-isShallow stack = leb (stack .depth) mostBelow
-
-pub record Counts (s : State) : Type 0 where
-  pub beliefs : s .beliefs .count ≤ 64
-  pub queued : s .queued ≤ 88
-  pub stacked : s .stacked ≤ 8
-  pub depths : all isShallow (take (stackedOf s) (s .stacks)) ≡ true
-
-pub counts-parts : (s : State) → countsFit s ≡ true → Counts s
-unfolding countsFit
-counts-parts s h =
-    let one = and-parts (leb (s .beliefs .count) mostBeliefs) _ h in
-    let two = and-parts (leb (s .queued) mostQueued) _ (one .1) in
-    let three = and-parts (leb (s .stacked) mostStacks) _ (two .1) in
-    record { beliefs = leb-true _ _ (one .0); queued = leb-true _ _ (two .0); stacked = leb-true _ _ (three .0); depths = three .1 }
-
-pub counts-whole : (s : State) → Counts s → countsFit s ≡ true
-unfolding countsFit
-counts-whole s h =
-    and-both (leb (s .beliefs .count) mostBeliefs) _ (le-leb _ _ (h .beliefs))
-    (and-both (leb (s .queued) mostQueued) _ (le-leb _ _ (h .queued)) (and-both (leb (s .stacked) mostStacks) _ (le-leb _ _ (h .stacked)) (h .depths)))
 
 one-shallow : (stack : Stack) → stack .depth ≤ 7 → all isShallow (stack ∷ []) ≡ true
 unfolding all

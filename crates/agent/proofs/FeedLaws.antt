@@ -21,11 +21,11 @@ use Rattle.state.specs.View.{viewState, countsFit}
 use Rattle.formed.specs.Formed.{isStateFormed, isFormed}
 use Rattle.printing.specs.LineText.{resultText}
 use Rattle.agent.specs.declared.Acted.{Acted}
-use Rattle.agent.specs.declared.Agent.{Agent}
+use Rattle.load.specs.declared.Agent.{Agent}
 use Rattle.agent.specs.declared.Replied.{Replied}
 use Rattle.agent.specs.View.{viewActed, plainly}
 use Rattle.agent.specs.Gives.{Gives}
-use Rattle.agent.specs.Load.{bytesOf}
+use Rattle.load.specs.Load.{bytesOf}
 use Rattle.agent.specs.Cycle.{WellFormedState}
 use Rattle.agent.specs.Calls.{isWellFormedWith, isWellFormedAgent, Calls}
 use Rattle.agent.specs.Feed.{respondBy, unreadable, refusalFor, Trusted, Responds, Runs, none-yet, then, inState, Journal, start, unread, answered}

@@ -58,7 +58,8 @@ use Rattle.agent.specs.Report.{Hears}
 use Rattle.agent.specs.TakeUp.{posterPlace, HasPoster, TakesUp}
 use Rattle.agent.specs.Turnable.{Turnable}
 use Rattle.agent.specs.View.{eventAt, stackAt}
-use Rattle.agent.proofs.CountLaws.{counts-parts, counts-depth}
+use Rattle.state.proofs.CountParts.{counts-parts}
+use Rattle.agent.proofs.CountLaws.{counts-depth}
 
 -- a goal is posted only from a stack with room
 change-posts : {P : Type 0} (env : Env) (changes : List Change) (goal : Literal) (b : Bool) → cond b (stepped env changes) missed ≡ posted goal → P

@@ -1,6 +1,5 @@
 pub mod GivesLaws
 pub mod OutcomeLaws
-pub mod LoadLaws
 pub mod AlteredLaws
 pub mod EventLaws
 pub mod TakeUpLaws

@@ -13,10 +13,10 @@ use Rattle.state.specs.declared.State.{State}
 use Rattle.state.specs.View.{viewState, countsFit}
 use Rattle.formed.specs.Formed.{isFormed}
 use Rattle.agent.specs.declared.Acted.{Acted}
-use Rattle.agent.specs.declared.Agent.{Agent}
+use Rattle.load.specs.declared.Agent.{Agent}
 use Rattle.agent.specs.declared.Replied.{Replied}
 use Rattle.agent.specs.View.{viewActed, plainly}
-use Rattle.agent.specs.Load.{bytesOf}
+use Rattle.load.specs.Load.{bytesOf}
 
 -- ---- An agent
 

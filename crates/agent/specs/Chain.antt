@@ -5,7 +5,7 @@ use mathlib.Core.List.{List, [], _∷_, map}
 use Rattle.model.specs.State.{Call, viewResult}
 use Rattle.model.specs.Run.{Entry}
 use Rattle.state.specs.View.{viewState}
-use Rattle.agent.specs.declared.Agent.{Agent}
+use Rattle.load.specs.declared.Agent.{Agent}
 use Rattle.agent.specs.declared.Replied.{Replied}
 use Rattle.agent.specs.Calls.{Calls}
 

@@ -18,7 +18,7 @@ use Rattle.stream.specs.declared.Carry.{Carry}
 use Rattle.stream.specs.Carried.{begun}
 use Rattle.stream.specs.Calls.{callsFrom}
 use Rattle.agent.specs.declared.Acted.{Acted}
-use Rattle.agent.specs.declared.Agent.{Agent}
+use Rattle.load.specs.declared.Agent.{Agent}
 use Rattle.agent.specs.declared.Replied.{Replied}
 use Rattle.agent.specs.declared.feed.Fed.{Fed}
 use Rattle.agent.specs.declared.feed.Ran.{Ran}

@@ -1,7 +1,6 @@
 pub mod View
 pub mod Gives
 pub mod Outcome
-pub mod Load
 pub mod Altered
 pub mod Report
 pub mod TakeUp

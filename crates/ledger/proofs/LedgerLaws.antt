@@ -24,10 +24,10 @@ use Rattle.model.proofs.ChangeLaws.{effective-join}
 use Rattle.model.proofs.CallLaws.{promises}
 use Rattle.model.proofs.AcceptedLibrary.{acceptable}
 use Rattle.state.specs.View.{viewState}
-use Rattle.agent.specs.declared.Agent.{Agent}
-use Rattle.agent.specs.declared.Loaded.{Loaded}
+use Rattle.load.specs.declared.Agent.{Agent}
+use Rattle.load.specs.declared.Loaded.{Loaded}
 use Rattle.agent.specs.declared.Replied.{Replied}
-use Rattle.agent.specs.Load.{bytesOf, Holds, Loads}
+use Rattle.load.specs.Load.{bytesOf, Holds, Loads}
 use Rattle.agent.specs.Calls.{isWellFormedAgent, viewReplied, Calls}
 use Rattle.agent.specs.Chain.{Link, Chain}
 use Rattle.agent.specs.Chain as Chain

@@ -9,7 +9,7 @@ use Rattle.belief.specs.declared.Beliefs.{Beliefs}
 use Rattle.belief.specs.declared.Change.{Change}
 use Rattle.belief.specs.Beliefs.{view}
 use Rattle.model.specs.State.{viewResult}
-use Rattle.agent.specs.declared.Agent.{Agent}
+use Rattle.load.specs.declared.Agent.{Agent}
 use Rattle.agent.specs.Chain.{Link}
 use Rattle.change.specs.declared.Changed.{Changed}
 use Rattle.change.specs.Changes.{changed}

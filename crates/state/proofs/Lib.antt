@@ -5,3 +5,4 @@ pub mod SearchSteps
 pub mod QueueLaws
 pub mod StackLaws
 pub mod StateLaws
+pub mod CountParts

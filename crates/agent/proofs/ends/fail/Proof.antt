@@ -16,7 +16,7 @@ use Rattle.state.specs.View.{viewStack, viewQueue, viewState}
 use Rattle.jobs.proofs.PlaceLaws.{plan-there}
 use Rattle.agent.specs.Altered.{Alters}
 use Rattle.model.specs.State.{requeued}
-use Rattle.agent.proofs.CountLaws.{counts-parts}
+use Rattle.state.proofs.CountParts.{counts-parts}
 use Rattle.agent.proofs.GivesLaws.{replies-as}
 use Rattle.agent.proofs.TurnLaws.{ended-after}
 use Rattle.model.specs.declared.Instance.{Instance}

@@ -1,7 +1,7 @@
 -- `agent::report::report_on` meets its contract: refused by the number, or taken in.
 use borrow.Author.Needs.{needs}
 use Rattle.agent.proofs.ReportLaws.{reported-refused, reports, reported-taken}
-use Rattle.agent.proofs.CountLaws.{counts-parts}
+use Rattle.state.proofs.CountParts.{counts-parts}
 use Rattle.agent.proofs.report.report_on.Statement.{statement}
 use Rattle.agent.proofs.report.report_on.Tie as tie
 

@@ -5,7 +5,7 @@ use mathlib.Core.Path.{_≡_, refl}
 use lib.ListN.{length}
 use Rattle.lists.proofs.ArrayLaws.{length-mapped}
 use Rattle.agent.proofs.ReportLaws.{taken-in}
-use Rattle.agent.proofs.CountLaws.{counts-parts}
+use Rattle.state.proofs.CountParts.{counts-parts}
 use Rattle.agent.proofs.report.taken_in.Statement.{statement}
 use Rattle.agent.proofs.report.taken_in.Tie as tie
 

@@ -10,7 +10,7 @@ use Rattle.state.specs.View.{depthOf, viewStack, viewState}
 use Rattle.state.proofs.StackLaws.{length-down}
 use Rattle.agent.specs.Trial.{Tries}
 use Rattle.agent.specs.Turnable.{placed}
-use Rattle.agent.proofs.CountLaws.{counts-parts}
+use Rattle.state.proofs.CountParts.{counts-parts}
 use Rattle.agent.proofs.GivesLaws.{replies-as}
 use Rattle.agent.proofs.turn.try_branch.Statement.{statement}
 use Rattle.agent.proofs.turn.try_branch.Tie as tie

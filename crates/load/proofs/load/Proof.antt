@@ -1,11 +1,11 @@
--- `agent::load::load` meets its contract: refused by the number, or the library's copy with its beliefs alone.
+-- `load::load` meets its contract: refused by the number, or the library's copy with its beliefs alone.
 use borrow.Author.Needs.{needs}
 use mathlib.Core.Path.{refl, sym, _∙_}
 use Rattle.library.proofs.Size.{library-most}
 use Rattle.library.proofs.Accepted.{few-beliefs}
-use Rattle.agent.proofs.LoadLaws.{loads-refused, loads-accepted}
-use Rattle.agent.proofs.load.load.Statement.{statement}
-use Rattle.agent.proofs.load.load.Tie as tie
+use Rattle.load.proofs.LoadLaws.{loads-refused, loads-accepted}
+use Rattle.load.proofs.load.Statement.{statement}
+use Rattle.load.proofs.load.Tie as tie
 
 refusal-requires : tie.Need-refusal-requires
 refusal-requires c κs = search needs

@@ -1,11 +1,11 @@
--- `agent::load::refused` meets its contract: no library, and a state with nothing in it.
+-- `load::refused` meets its contract: no library, and a state with nothing in it.
 use borrow.Author.Needs.{needs}
 use native.Mathlib.Omega.{arith}
 use mathlib.Core.Path.{refl, ap, _∙_}
 use Rattle.state.specs.View.{countsFit}
-use Rattle.agent.proofs.LoadLaws.{starts-fit}
-use Rattle.agent.proofs.load.refused.Statement.{statement}
-use Rattle.agent.proofs.load.refused.Tie as tie
+use Rattle.load.proofs.LoadLaws.{starts-fit}
+use Rattle.load.proofs.refused.Statement.{statement}
+use Rattle.load.proofs.refused.Tie as tie
 
 no-beliefs-requires : tie.Need-no-beliefs-requires
 no-beliefs-requires c κs = search needs

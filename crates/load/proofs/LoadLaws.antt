@@ -17,9 +17,9 @@ use Rattle.library.specs.Refusal.{refusalOf}
 use Rattle.library.proofs.Size.{library-most}
 use Rattle.state.specs.declared.State.{State}
 use Rattle.state.specs.View.{viewQueue, viewStacks, viewState, countsFit}
-use Rattle.agent.specs.declared.Loaded.{Loaded}
-use Rattle.agent.specs.Load.{Holds, Starts, Refuses, Loads}
-use Rattle.agent.proofs.CountLaws.{counts-whole}
+use Rattle.load.specs.declared.Loaded.{Loaded}
+use Rattle.load.specs.Load.{Holds, Starts, Refuses, Loads}
+use Rattle.state.proofs.CountParts.{counts-whole}
 
 -- the first i places hold the first i beliefs
 pub record Copied (beliefs : List Literal) (items : List Literal) (i : ℕ) : Type 0 where

@@ -1,4 +1,4 @@
--- `agent::load::initial_beliefs` meets its contract. The loop's invariant: the first i places hold the first i beliefs.
+-- `load::initial_beliefs` meets its contract. The loop's invariant: the first i places hold the first i beliefs.
 use borrow.Author.Needs.{needs}
 use native.Mathlib.Omega.{arith}
 use Prim.Native.Nat.{_-_, _≤_}
@@ -6,9 +6,9 @@ use mathlib.Core.Path.{refl}
 use Rattle.lists.proofs.ArrayLaws.{length-mapped}
 use Rattle.library.specs.Layout.{beliefsOf}
 use Rattle.library.proofs.PartLaws.{length-beliefs}
-use Rattle.agent.proofs.LoadLaws.{Copied, copied-next, copied-all}
-use Rattle.agent.proofs.load.initial_beliefs.Statement.{statement}
-use Rattle.agent.proofs.load.initial_beliefs.Tie as tie
+use Rattle.load.proofs.LoadLaws.{Copied, copied-next, copied-all}
+use Rattle.load.proofs.initial_beliefs.Statement.{statement}
+use Rattle.load.proofs.initial_beliefs.Tie as tie
 
 abbrev Inv-loop : tie.InvT-loop
 Inv-loop library table₀ n i₀ table i = (i ≤ n) × Copied (beliefsOf library) (table .items) i

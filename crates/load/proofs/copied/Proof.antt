@@ -1,4 +1,4 @@
--- `agent::load::copied` meets its contract. The loop's invariant: the first i bytes are copied.
+-- `load::copied` meets its contract. The loop's invariant: the first i bytes are copied.
 use borrow.Author.Needs.{needs}
 use native.Mathlib.Omega.{arith}
 use Prim.Native.Nat.{ℕ, _-_, _≤_, _<_}
@@ -6,8 +6,8 @@ use mathlib.Core.Path.{_≡_, refl, _∙_}
 use native.Mathlib.Numerals.{add-one}
 use lib.ListN.{length, take, getD, length-set, length-replicate}
 use lib.Seq.{take-suc-set, take-suc, take-length}
-use Rattle.agent.proofs.load.copied.Statement.{statement}
-use Rattle.agent.proofs.load.copied.Tie as tie
+use Rattle.load.proofs.copied.Statement.{statement}
+use Rattle.load.proofs.copied.Tie as tie
 
 abbrev Inv-loop : tie.InvT-loop
 Inv-loop library copy₀ i₀ copy i = (i ≤ length library) × (length copy ≡ 19332) × (take i copy ≡ take i library)

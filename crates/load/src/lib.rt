@@ -4,10 +4,7 @@ ghost use Prim.Native.Nat.{_≤_};
 ghost use lib.ListN.{length, take};
 ghost use Rattle.belief.specs.Beliefs.{mostBeliefs};
 ghost use Rattle.library.specs.Layout.{beliefsOf};
-ghost use Rattle.agent.specs.Load.{Starts, Refuses, Loads, Holds};
-use crate::Agent;
-use crate::Loaded;
-use crate::MOST_BYTES;
+ghost use Rattle.load.specs.Load.{Starts, Refuses, Loads, Holds};
 use belief::Beliefs;
 use belief::MOST_BELIEFS;
 use model::Event;
@@ -19,6 +16,22 @@ use state::MOST_QUEUED;
 use state::MOST_STACKS;
 use state::Stack;
 use state::State;
+
+// The largest library.
+pub const MOST_BYTES: usize = 19332;
+
+// The agent: its own copy of the library in the first `length` bytes, and its state.
+pub struct Agent {
+    pub library: [u8; MOST_BYTES],
+    pub length: usize,
+    pub state: State,
+}
+
+// What load answers: the refusal's number, 0 where there is none, and the agent.
+pub struct Loaded {
+    pub refusal: u16,
+    pub agent: Agent,
+}
 
 // The bytes at the beginning of an array, zeros after them.
 fn copied(library: &[u8]) -> [u8; MOST_BYTES]

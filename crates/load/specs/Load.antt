@@ -13,8 +13,8 @@ use Rattle.library.specs.Refusal.{refusalOf}
 use Rattle.model.specs.Calls.{loaded}
 use Rattle.state.specs.declared.State.{State}
 use Rattle.state.specs.View.{viewState, countsFit}
-use Rattle.agent.specs.declared.Agent.{Agent}
-use Rattle.agent.specs.declared.Loaded.{Loaded}
+use Rattle.load.specs.declared.Agent.{Agent}
+use Rattle.load.specs.declared.Loaded.{Loaded}
 
 -- the agent's library: the bytes of its copy that are in use
 abbrev pub bytesOf : Agent → List ℕ
