@@ -1,0 +1,138 @@
+//! Times the proved program and the reference on the same journals, turn about, and prints tables for docs/BENCHMARKS.md.
+//!
+//! `bench PROVED REFERENCE [RUNS]`; a program that does not exist is left out. Times are the least of RUNS runs.
+
+use cases::Case;
+use measure::Folder;
+use std::collections::BTreeSet;
+use std::path::{Path, PathBuf};
+use std::process::ExitCode;
+
+mod cases;
+mod measure;
+
+type Measured<T> = Result<T, Box<dyn std::error::Error>>;
+
+/// How many lines of a journal callgrind sees.
+const COUNTED_LINES: usize = 20_000;
+
+/// What one program took for one journal.
+#[derive(Clone, Copy)]
+struct Cost {
+    nanoseconds: u64,
+    instructions: u64,
+}
+
+struct Bench {
+    folder: Folder,
+    programs: [Option<PathBuf>; 2],
+    runs: usize,
+}
+
+fn main() -> ExitCode {
+    let words: Vec<String> = std::env::args().skip(1).collect();
+    let runs = words.get(2).map_or(Some(5), |runs| runs.parse().ok());
+    let ([proved, reference, ..], Some(runs)) = (&words[..], runs) else {
+        eprintln!("usage: bench PROVED REFERENCE [RUNS]");
+        return ExitCode::from(2);
+    };
+    let program = |path: &String| std::fs::canonicalize(path).ok();
+    let bench = Folder::new().map(|folder| Bench { folder, programs: [program(proved), program(reference)], runs });
+    match bench.and_then(|bench| bench.tables()) {
+        Ok(()) => ExitCode::SUCCESS,
+        Err(error) => {
+            eprintln!("{error}");
+            ExitCode::FAILURE
+        }
+    }
+}
+
+impl Bench {
+    fn tables(&self) -> Measured<()> {
+        println!("### Whole runs\n");
+        println!("| Journal | Lines | Letters | Reference ms | Proved ms | Ratio | Reference Minstr | Proved Minstr | Ratio |");
+        println!("|---|---:|---|---:|---:|---:|---:|---:|---:|");
+        for case in cases::runs() {
+            let letters = self.letters(&case)?;
+            let costs = self.costs(&case.library, &case.input, &case.first_lines(COUNTED_LINES))?;
+            let times = compared(costs, |cost| cost.nanoseconds, 1e6);
+            let instructions = compared(costs, |cost| cost.instructions, 1e6);
+            println!("| {} | {} | {letters} | {times} | {instructions} |", case.name, case.lines());
+        }
+        println!("\n### How the cost of a line grows\n");
+        println!("| Size | Letters | Reference ns | Proved ns | Ratio | Reference instr | Proved instr | Ratio |");
+        println!("|---:|---|---:|---:|---:|---:|---:|---:|");
+        for (dimension, cases) in cases::growths() {
+            println!("| **{dimension}** | | | | | | | |");
+            for case in cases {
+                self.growth(&case)?;
+            }
+        }
+        Ok(())
+    }
+
+    /// The cost of a line, without that of starting and loading.
+    fn growth(&self, case: &Case) -> Measured<()> {
+        let letters = self.letters(case)?;
+        let counted = case.first_lines(COUNTED_LINES);
+        let whole = self.costs(&case.library, &case.input, &counted)?;
+        let start = self.costs(&case.library, b"", b"")?;
+        let counted = COUNTED_LINES.min(case.lines()) as u64;
+        let line = |whole: Option<Cost>, start: Option<Cost>| {
+            let (whole, start) = (whole?, start?);
+            Some(Cost {
+                nanoseconds: whole.nanoseconds.saturating_sub(start.nanoseconds) * 10 / case.lines() as u64,
+                instructions: whole.instructions.saturating_sub(start.instructions) * 10 / counted,
+            })
+        };
+        let costs = [line(whole[0], start[0]), line(whole[1], start[1])];
+        let times = compared(costs, |cost| cost.nanoseconds, 10.0);
+        let instructions = compared(costs, |cost| cost.instructions, 10.0);
+        println!("| {} | {letters} | {times} | {instructions} |", case.name);
+        Ok(())
+    }
+
+    /// The least time of some runs, the programs turn about, and the instructions of a shorter journal.
+    fn costs(&self, library: &[u8], input: &[u8], counted: &[u8]) -> Measured<[Option<Cost>; 2]> {
+        let mut least = [u64::MAX; 2];
+        self.folder.set(library, input)?;
+        for _ in 0..self.runs {
+            for (least, program) in least.iter_mut().zip(&self.programs) {
+                if let Some(program) = program {
+                    *least = self.folder.time(program)?.min(*least);
+                }
+            }
+        }
+        self.folder.set(library, counted)?;
+        let cost = |place: usize| -> Measured<Option<Cost>> {
+            let Some(program) = &self.programs[place] else { return Ok(None) };
+            Ok(Some(Cost { nanoseconds: least[place], instructions: self.folder.instructions(program)? }))
+        };
+        Ok([cost(0)?, cost(1)?])
+    }
+
+    /// The letters of the answers, on which the programs must agree.
+    fn letters(&self, case: &Case) -> Measured<String> {
+        self.folder.set(&case.library, &case.input)?;
+        let answers: Vec<Vec<u8>> = self
+            .programs
+            .iter()
+            .flatten()
+            .map(|program: &PathBuf| self.folder.answers(Path::new(program)))
+            .collect::<Measured<_>>()?;
+        if answers.windows(2).any(|pair| pair[0] != pair[1]) {
+            return Err(format!("{}: the programs differ", case.name).into());
+        }
+        let lines = answers.first().map(|text| text.split(|byte| *byte == b'\n')).into_iter().flatten();
+        let letters: BTreeSet<&u8> = lines.filter_map(|line| line.first()).collect();
+        Ok(letters.into_iter().map(|letter| char::from(*letter)).collect())
+    }
+}
+
+/// Reference, proved and the proved program's share of the reference, in units.
+fn compared([proved, reference]: [Option<Cost>; 2], part: fn(Cost) -> u64, unit: f64) -> String {
+    let value = |cost: Option<Cost>| cost.map(|cost| part(cost) as f64 / unit);
+    let show = |value: Option<f64>| value.map_or("-".to_string(), |value| format!("{value:.2}"));
+    let ratio = value(proved).zip(value(reference)).map(|(proved, reference)| proved / reference);
+    format!("{} | {} | {}", show(value(reference)), show(value(proved)), show(ratio))
+}

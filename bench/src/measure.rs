@@ -1,0 +1,68 @@
+//! Processor time and instructions of a program.
+
+use std::fs::{self, File};
+use std::io::Read;
+use std::path::{Path, PathBuf};
+use std::process::{Command, Stdio};
+
+type Measured<T> = Result<T, Box<dyn std::error::Error>>;
+
+/// A folder in which programs run, with the files "library" and "input".
+pub struct Folder(PathBuf);
+
+impl Folder {
+    pub fn new() -> Measured<Self> {
+        let folder = std::env::temp_dir().join(format!("bench-{}", std::process::id()));
+        fs::create_dir_all(&folder)?;
+        Ok(Folder(folder))
+    }
+
+    pub fn set(&self, library: &[u8], input: &[u8]) -> Measured<()> {
+        fs::write(self.0.join("library"), library)?;
+        Ok(fs::write(self.0.join("input"), input)?)
+    }
+
+    fn command(&self, program: &Path) -> Measured<Command> {
+        let mut command = Command::new(program);
+        command.current_dir(&self.0).stdin(File::open(self.0.join("input"))?);
+        command.stdout(Stdio::null()).stderr(Stdio::piped());
+        Ok(command)
+    }
+
+    /// Nanoseconds on a processor, user and system, as the kernel counts them for the ended process.
+    pub fn time(&self, program: &Path) -> Measured<u64> {
+        let mut child = self.command(program)?.spawn()?;
+        let mut errors = String::new();
+        if let Some(mut stderr) = child.stderr.take() {
+            stderr.read_to_string(&mut errors)?;
+        }
+        let counted = fs::read_to_string(format!("/proc/{}/schedstat", child.id()))?;
+        let status = child.wait()?;
+        if !status.success() {
+            return Err(format!("{}: {status} {errors}", program.display()).into());
+        }
+        Ok(counted.split(' ').next().unwrap_or_default().parse()?)
+    }
+
+    /// Instructions, by callgrind.
+    pub fn instructions(&self, program: &Path) -> Measured<u64> {
+        let mut command = self.command(Path::new("valgrind"))?;
+        command.args(["--tool=callgrind", "--callgrind-out-file=/dev/null"]).arg(program);
+        let output = command.output()?;
+        let errors = String::from_utf8_lossy(&output.stderr);
+        let collected = errors.lines().find_map(|line| line.split_once("Collected : "));
+        let (_, count) = collected.ok_or_else(|| format!("callgrind says no count: {errors}"))?;
+        Ok(count.trim().parse()?)
+    }
+
+    /// The answers of a program.
+    pub fn answers(&self, program: &Path) -> Measured<Vec<u8>> {
+        Ok(self.command(program)?.stdout(Stdio::piped()).output()?.stdout)
+    }
+}
+
+impl Drop for Folder {
+    fn drop(&mut self) {
+        let _ = fs::remove_dir_all(&self.0);
+    }
+}

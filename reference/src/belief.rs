@@ -1,0 +1,141 @@
+//! The belief table and the search for a situation's first solution (document 01, "Literals and matching", "Situations").
+
+use crate::literal::{Bindings, Fact, Literal};
+
+/// The most beliefs that are held at a time.
+pub const MOST_BELIEFS: usize = 64;
+
+/// A change of the beliefs that took effect.
+#[derive(Clone, Copy, Debug, PartialEq, Eq)]
+pub enum Change {
+    /// The fact was not held and now is.
+    Added(Fact),
+    /// The fact was held and now is not.
+    Removed(Fact),
+}
+
+/// An add found the table full.
+#[derive(Clone, Copy, Debug, PartialEq, Eq)]
+pub struct Full;
+
+/// Facts that are held, all different, oldest first.
+#[derive(Clone, Debug, Default)]
+pub struct Beliefs(Vec<Fact>);
+
+impl Beliefs {
+    /// A table of facts that the caller knows to be different and few enough.
+    pub(crate) fn of(facts: Vec<Fact>) -> Self {
+        Beliefs(facts)
+    }
+
+    /// The facts, oldest first.
+    pub fn facts(&self) -> &[Fact] {
+        &self.0
+    }
+
+    /// Whether the fact is held.
+    pub fn holds(&self, fact: &Fact) -> bool {
+        self.0.contains(fact)
+    }
+
+    /// Adds a fact last, unless it is held already.
+    pub fn add(&mut self, fact: Fact) -> Result<Option<Change>, Full> {
+        if self.holds(&fact) {
+            return Ok(None);
+        }
+        if self.0.len() >= MOST_BELIEFS {
+            return Err(Full);
+        }
+        self.0.push(fact);
+        Ok(Some(Change::Added(fact)))
+    }
+
+    /// Removes a fact, if it is held; the others keep their order.
+    pub fn remove(&mut self, fact: Fact) -> Option<Change> {
+        let place = self.0.iter().position(|held| *held == fact)?;
+        self.0.remove(place);
+        Some(Change::Removed(fact))
+    }
+
+    /// The bindings from the oldest belief that the literal matches.
+    pub fn first_match(&self, literal: &Literal, bindings: &Bindings) -> Option<Bindings> {
+        self.0.iter().find_map(|fact| literal.matched(fact, bindings))
+    }
+
+    /// The first solution of a list of literals, trying beliefs oldest first and going back where the rest has none.
+    pub fn first_solution(&self, literals: &[Literal], bindings: &Bindings) -> Option<Bindings> {
+        let Some((first, rest)) = literals.split_first() else {
+            return Some(*bindings);
+        };
+        if rest.is_empty() {
+            return self.first_match(first, bindings);
+        }
+        self.0.iter().find_map(|fact| self.first_solution(rest, &first.matched(fact, bindings)?))
+    }
+}
+
+/// Alternatives, each a list of literals that must be held together.
+#[derive(Clone, Debug, Default)]
+pub struct Situation(pub Vec<Vec<Literal>>);
+
+impl Situation {
+    /// The first solution of the first alternative that has one.
+    pub fn first_solution(&self, beliefs: &Beliefs, bindings: &Bindings) -> Option<Bindings> {
+        self.0.iter().find_map(|literals| beliefs.first_solution(literals, bindings))
+    }
+
+    /// Whether there is a solution.
+    pub fn holds(&self, beliefs: &Beliefs, bindings: &Bindings) -> bool {
+        self.first_solution(beliefs, bindings).is_some()
+    }
+}
+
+#[cfg(test)]
+mod tests {
+    use super::*;
+    use crate::literal::Symbol;
+
+    const V0: u16 = 65_528;
+
+    fn fact(symbol: u16, term: u16) -> Fact {
+        Fact { symbol: Symbol::from_stored(symbol), terms: [term, 0, 0] }
+    }
+
+    fn literal(symbol: u16, term: u16) -> Literal {
+        Literal::from_stored([symbol, term, 0, 0])
+    }
+
+    fn first(alternatives: Vec<Vec<Literal>>) -> Option<Option<u16>> {
+        let beliefs = Beliefs::of(vec![fact(1, 5), fact(1, 6), fact(2, 6)]);
+        Situation(alternatives).first_solution(&beliefs, &Bindings::default()).map(|bindings| bindings.get(0))
+    }
+
+    #[test]
+    fn small_cases() {
+        assert_eq!(first(vec![vec![literal(1, V0)]]), Some(Some(5)));
+        assert_eq!(first(vec![vec![literal(1, V0), literal(2, V0)]]), Some(Some(6)));
+        assert_eq!(first(vec![vec![literal(2, V0)], vec![literal(1, V0)]]), Some(Some(6)));
+        assert_eq!(first(vec![]), None);
+        assert_eq!(first(vec![vec![]]), Some(None));
+        assert_eq!(first(vec![vec![literal(32_769, V0)]]), None);
+        assert_eq!(first(vec![vec![Literal::from_stored([1, V0, V0, 0])]]), None);
+    }
+
+    #[test]
+    fn a_removed_fact_that_is_added_again_goes_last() {
+        let mut beliefs = Beliefs::of(vec![fact(1, 5), fact(1, 6)]);
+        assert_eq!(beliefs.add(fact(1, 5)), Ok(None));
+        assert_eq!(beliefs.facts(), [fact(1, 5), fact(1, 6)]);
+        assert_eq!(beliefs.remove(fact(1, 5)), Some(Change::Removed(fact(1, 5))));
+        assert_eq!(beliefs.remove(fact(1, 5)), None);
+        assert_eq!(beliefs.add(fact(1, 5)), Ok(Some(Change::Added(fact(1, 5)))));
+        assert_eq!(beliefs.facts(), [fact(1, 6), fact(1, 5)]);
+    }
+
+    #[test]
+    fn the_sixty_fifth_fact_finds_no_room() {
+        let mut beliefs = Beliefs::of((0..64).map(|term| fact(1, term)).collect());
+        assert_eq!(beliefs.add(fact(1, 64)), Err(Full));
+        assert_eq!(beliefs.add(fact(1, 63)), Ok(None));
+    }
+}

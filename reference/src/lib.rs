@@ -1,0 +1,19 @@
+//! The cutting-cell agent and its journal in plain Rust, written from document 01 alone.
+//!
+//! It shares nothing with the proved program: what the two answer is compared byte by byte
+//! (`tests/differential`) and timed side by side (`bench`).
+//!
+//! A library of bytes becomes a [`library::Library`] of decoded plans; an [`agent::Agent`] made from it takes reports,
+//! cycles and outcomes; a [`journal::Journal`] reads these calls as lines and writes a line for each.
+
+#![forbid(unsafe_code)]
+#![warn(missing_docs)]
+
+pub mod agent;
+pub mod answer;
+pub mod belief;
+pub mod journal;
+pub mod library;
+pub mod literal;
+pub mod refusal;
+pub mod state;

@@ -1,0 +1,279 @@
+//! A library's bytes decoded into beliefs and plans (document 01, "Library").
+
+use crate::belief::{MOST_BELIEFS, Situation};
+use crate::literal::{Bindings, Fact, Literal};
+use crate::refusal::Refusal;
+
+/// The most plans that a library has.
+pub const MOST_PLANS: usize = 32;
+const MOST_STATES: usize = 16;
+/// The most alternatives, literals, actions or branches in one list.
+const MOST_ITEMS: usize = 4;
+
+/// What an event tells, or a plan answers to.
+#[derive(Clone, Copy, Debug, PartialEq, Eq)]
+pub enum EventKind {
+    /// A belief was added.
+    Added,
+    /// A belief was removed.
+    Removed,
+    /// Something was told.
+    Told,
+    /// A goal: make this so.
+    Achieve,
+    /// A goal: find out whether this is so.
+    Query,
+}
+
+/// What a branch does.
+#[derive(Clone, Copy, Debug, PartialEq, Eq)]
+pub enum BranchKind {
+    /// Adds a belief.
+    Add,
+    /// Removes a belief.
+    Remove,
+    /// Has a device act, and waits for its outcome.
+    External,
+    /// Posts a goal to achieve, unless it is so already.
+    Achieve,
+    /// Asks the beliefs, or posts a goal to find out.
+    Query,
+}
+
+/// One way on from a state.
+#[derive(Clone, Debug)]
+pub struct Branch {
+    /// What it does.
+    pub kind: BranchKind,
+    /// With which literal.
+    pub literal: Literal,
+    /// The state that it leads to.
+    pub next: usize,
+}
+
+/// An action of a success or failure list.
+#[derive(Clone, Debug)]
+pub enum Action {
+    /// Adds a belief.
+    Add(Literal),
+    /// Removes a belief.
+    Remove(Literal),
+}
+
+/// A plan, decoded.
+#[derive(Clone, Debug)]
+pub struct Plan {
+    /// The kind of event that it answers to.
+    pub kind: EventKind,
+    /// The literal that the event's must match.
+    pub trigger: Literal,
+    /// What must hold for it to be chosen.
+    pub context: Situation,
+    /// What must hold at each of its turns.
+    pub maintenance: Situation,
+    /// What it does to the beliefs when it succeeds.
+    pub on_success: Vec<Action>,
+    /// What it does to the beliefs when it fails.
+    pub on_failure: Vec<Action>,
+    /// The branches of each state of its body; a state without branches is an end.
+    pub states: Vec<Vec<Branch>>,
+}
+
+/// What an agent starts from.
+#[derive(Clone, Debug)]
+pub struct Library {
+    /// The initial beliefs, oldest first.
+    pub beliefs: Vec<Fact>,
+    /// The plans, by number.
+    pub plans: Vec<Plan>,
+}
+
+impl Library {
+    /// Decodes a library, or says by which rule it is refused.
+    pub fn decode(bytes: &[u8]) -> Result<Library, Refusal> {
+        let contents = Reader(bytes).contents().ok_or(Refusal::Contents)?;
+        let bodies = contents.bodies(bytes)?;
+        let beliefs = initial_beliefs(&contents.beliefs).ok_or(Refusal::InitialBelief)?;
+        let plans = bodies.into_iter().map(decode_plan).collect::<Option<_>>().ok_or(Refusal::Plan)?;
+        Ok(Library { beliefs, plans })
+    }
+}
+
+struct Contents {
+    entries: Vec<(usize, usize)>,
+    beliefs: Vec<Literal>,
+}
+
+impl Contents {
+    /// The bytes of each plan, if the plans are packed behind the contents up to the last byte.
+    fn bodies<'a>(&self, bytes: &'a [u8]) -> Result<Vec<&'a [u8]>, Refusal> {
+        let mut end = 4 + 4 * self.entries.len() + 8 * self.beliefs.len();
+        let mut bodies = Vec::with_capacity(self.entries.len());
+        for &(offset, length) in &self.entries {
+            if offset != end {
+                return Err(Refusal::Packing);
+            }
+            end += length;
+            bodies.push(bytes.get(offset..end).ok_or(Refusal::Packing)?);
+        }
+        if end == bytes.len() { Ok(bodies) } else { Err(Refusal::Packing) }
+    }
+}
+
+fn initial_beliefs(literals: &[Literal]) -> Option<Vec<Fact>> {
+    let mut facts = Vec::with_capacity(MOST_BELIEFS);
+    for literal in literals {
+        let fact = literal.ground(&Bindings::default())?;
+        if facts.contains(&fact) {
+            return None;
+        }
+        facts.push(fact);
+    }
+    Some(facts)
+}
+
+/// A plan that takes up all of the bytes.
+fn decode_plan(bytes: &[u8]) -> Option<Plan> {
+    let mut reader = Reader(bytes);
+    let plan = reader.plan()?;
+    reader.0.is_empty().then_some(plan)
+}
+
+/// Whether each branch leads on to a later state, and each state but the first is led to once.
+fn is_tree(states: &[Vec<Branch>]) -> bool {
+    let mut led_to = vec![false; states.len()];
+    for (state, branches) in states.iter().enumerate() {
+        for branch in branches {
+            if branch.next <= state || branch.next >= states.len() || led_to[branch.next] {
+                return false;
+            }
+            led_to[branch.next] = true;
+        }
+    }
+    led_to.into_iter().skip(1).all(|reached| reached)
+}
+
+/// Reads values off the front of the bytes; none where they end too early or break the layout.
+struct Reader<'a>(&'a [u8]);
+
+impl Reader<'_> {
+    fn number(&mut self) -> Option<u16> {
+        let (bytes, rest) = self.0.split_first_chunk()?;
+        self.0 = rest;
+        Some(u16::from_le_bytes(*bytes))
+    }
+
+    fn count(&mut self, most: usize) -> Option<usize> {
+        self.number().map(usize::from).filter(|count| *count <= most)
+    }
+
+    fn items<T>(&mut self, count: usize, mut item: impl FnMut(&mut Self) -> Option<T>) -> Option<Vec<T>> {
+        (0..count).map(|_| item(self)).collect()
+    }
+
+    fn list<T>(&mut self, item: impl FnMut(&mut Self) -> Option<T>) -> Option<Vec<T>> {
+        let count = self.count(MOST_ITEMS)?;
+        self.items(count, item)
+    }
+
+    fn literal(&mut self) -> Option<Literal> {
+        Some(Literal::from_stored([self.number()?, self.number()?, self.number()?, self.number()?]))
+    }
+
+    fn contents(&mut self) -> Option<Contents> {
+        let plans = self.count(MOST_PLANS)?;
+        let beliefs = self.count(MOST_BELIEFS)?;
+        let entry = |reader: &mut Self| Some((reader.number()?.into(), reader.number()?.into()));
+        Some(Contents { entries: self.items(plans, entry)?, beliefs: self.items(beliefs, Self::literal)? })
+    }
+
+    fn plan(&mut self) -> Option<Plan> {
+        let plan = Plan {
+            kind: self.event_kind()?,
+            trigger: self.literal()?,
+            context: self.situation()?,
+            maintenance: self.situation()?,
+            on_success: self.list(Self::action)?,
+            on_failure: self.list(Self::action)?,
+            states: self.states()?,
+        };
+        is_tree(&plan.states).then_some(plan)
+    }
+
+    fn event_kind(&mut self) -> Option<EventKind> {
+        Some(match self.number()? {
+            0 => EventKind::Added,
+            1 => EventKind::Removed,
+            2 => EventKind::Told,
+            3 => EventKind::Achieve,
+            4 => EventKind::Query,
+            _ => return None,
+        })
+    }
+
+    fn situation(&mut self) -> Option<Situation> {
+        self.list(|reader| reader.list(Self::literal)).map(Situation)
+    }
+
+    fn action(&mut self) -> Option<Action> {
+        match self.number()? {
+            0 => self.literal().map(Action::Add),
+            1 => self.literal().map(Action::Remove),
+            _ => None,
+        }
+    }
+
+    fn states(&mut self) -> Option<Vec<Vec<Branch>>> {
+        let count = self.count(MOST_STATES).filter(|count| *count > 0)?;
+        self.items(count, |reader| reader.list(Self::branch))
+    }
+
+    fn branch(&mut self) -> Option<Branch> {
+        let kind = match self.number()? {
+            0 => BranchKind::Add,
+            1 => BranchKind::Remove,
+            2 => BranchKind::External,
+            3 => BranchKind::Achieve,
+            4 => BranchKind::Query,
+            _ => return None,
+        };
+        let branch = Branch { kind, literal: self.literal()?, next: self.number()?.into() };
+        (kind != BranchKind::External || !branch.literal.symbol.is_negative()).then_some(branch)
+    }
+}
+
+#[cfg(test)]
+mod tests {
+    use super::*;
+
+    fn refused(bytes: &[u8]) -> Option<u16> {
+        Library::decode(bytes).err().map(Refusal::number)
+    }
+
+    #[test]
+    fn four_zero_bytes_three_and_five() {
+        assert_eq!(refused(&[0; 4]), None);
+        assert_eq!(refused(&[0; 3]), Some(1));
+        assert_eq!(refused(&[0; 5]), Some(2));
+    }
+
+    #[test]
+    fn counts_over_the_most_are_refused_before_anything_is_read() {
+        assert_eq!(refused(&[33, 0, 0, 0]), Some(1));
+        assert_eq!(refused(&[0, 0, 65, 0]), Some(1));
+        assert_eq!(refused(&[1, 0, 0, 0, 8, 0, 0]), Some(1));
+    }
+
+    #[test]
+    fn an_entry_of_no_bytes_packs_and_is_no_plan() {
+        assert_eq!(refused(&[1, 0, 0, 0, 8, 0, 0, 0]), Some(4));
+        assert_eq!(refused(&[1, 0, 0, 0, 9, 0, 0, 0]), Some(2));
+    }
+
+    #[test]
+    fn beliefs_are_ground_and_different() {
+        assert_eq!(refused(&[0, 0, 1, 0, 1, 0, 248, 255, 0, 0, 0, 0]), Some(3));
+        assert_eq!(refused(&[0, 0, 2, 0, 1, 0, 5, 0, 0, 0, 0, 0, 1, 0, 5, 0, 0, 0, 0, 0]), Some(3));
+        assert_eq!(refused(&[0, 0, 2, 0, 1, 0, 5, 0, 0, 0, 0, 0, 1, 128, 5, 0, 0, 0, 0, 0]), None);
+    }
+}

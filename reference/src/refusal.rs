@@ -1,0 +1,33 @@
+//! What is refused, by number (document 01, "Who may cause which refusal").
+
+/// Why a library, a line or a call is refused.
+#[derive(Clone, Copy, Debug, PartialEq, Eq)]
+pub enum Refusal {
+    /// The line is none of the three calls.
+    Unreadable = 0,
+    /// The counts, the contents or the beliefs do not fit the file.
+    Contents = 1,
+    /// An entry, or the file's end, is not where packing puts it.
+    Packing = 2,
+    /// An initial belief has a variable or stands twice.
+    InitialBelief = 3,
+    /// A plan is off the layout or has another length.
+    Plan = 4,
+    /// The reported kind is over 2 or the literal has a variable.
+    Malformed = 5,
+    /// There is no room for another belief.
+    BeliefsFull = 6,
+    /// There is no room for another external event.
+    QueueFull = 7,
+    /// No instance with this id waits for an outcome.
+    NotWaiting = 8,
+    /// The next event or instance would need a number past 65,535.
+    NumbersSpent = 9,
+}
+
+impl Refusal {
+    /// The number that the journal prints.
+    pub fn number(self) -> u16 {
+        self as u16
+    }
+}
