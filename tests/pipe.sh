@@ -39,7 +39,7 @@ ended() {
 }
 
 answered=0
-for case in tests/journals/document-01 tests/journals/eight-stacks tests/journals/goal-second-plan; do
+for case in tests/journals/{document-01,eight-stacks,goal-second-plan} examples/cutting-cell; do
     dialogue "$case"
 done
 echo "pipe: $answered lines answered one by one"
