@@ -1,6 +1,7 @@
 #!/usr/bin/env bash
 # Stored journals: each folder of tests/journals and examples holds a library, an input and the answers expected, byte by byte.
-# Runs the proved program on each, and the reference too where tests/differential.sh has built it.
+# Runs the proved program on each, and the reference too where tests/differential.sh has built it. The pages that show a
+# journal in a table, and the texts that libraries are built from, are compared with the stored bytes.
 set -euo pipefail
 cd "$(dirname "$0")/.."
 
@@ -32,6 +33,16 @@ run() {
     cmp -s "$2/expected" "$folder/output" || { differs "${2##*/}: $1" "$2/expected" "$folder/output"; return 1; }
 }
 
+# shown PAGE CASE: the page's table of lines in and out is the case's journal.
+shown() {
+    # shellcheck disable=SC2016 # backquotes of Markdown
+    local lines='s/^| `\([CPO][^`]*\)` | `.*/\1/p' answers='s/^| `[CPO][^`]*` | `\([^`]*\)` .*/\1/p'
+    if ! cmp -s <(sed -n "$lines" "$1") "$2/input" || ! cmp -s <(sed -n "$answers" "$1") "$2/expected"; then
+        echo "$1: its table is not the journal of $2"
+        return 1
+    fi
+}
+
 count=0
 for case in tests/journals/*/ examples/*/; do
     [ -e "$case/input" ] || continue
@@ -40,6 +51,9 @@ for case in tests/journals/*/ examples/*/; do
     done
     count=$((count + 1))
 done
+
+shown README.md tests/journals/document-01
+shown examples/README.md examples/cutting-cell
 
 sources="python3 is missing: libraries not compared with their text"
 if command -v python3 > /dev/null; then
