@@ -1,0 +1,4 @@
+pub mod SessionLaws
+pub mod AnswerLaws
+pub mod OutputLaws
+pub mod SmallCases

@@ -1,0 +1,4 @@
+pub mod Session
+pub mod Answers
+pub mod Output
+pub mod Cases

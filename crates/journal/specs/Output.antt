@@ -1,0 +1,39 @@
+-- What the program prints (document 01, "Journal"), computed from the library's bytes and the input.
+use Prim.Native.Nat.{ℕ}
+use mathlib.Core.Bool.{cond}
+use mathlib.Core.Option.{Option}
+use mathlib.Core.List.{List, [], _∷_, _++_, map}
+use lib.Dec.{eqb}
+use Rattle.library.specs.Plan.{Library}
+use Rattle.library.specs.Layout.{libraryOf}
+use Rattle.library.specs.Refusal.{refusalOf}
+use Rattle.model.specs.declared.Answer.the-variants.{Refused}
+use Rattle.model.specs.State.{AgentState, Call, Reply}
+use Rattle.model.specs.Calls.{loaded}
+use Rattle.model.specs.WellFormed.{isWellFormed}
+use Rattle.printing.specs.LineText.{resultText}
+use Rattle.reading.specs.Call.{callOf}
+use Rattle.stream.specs.Lines.{lines}
+use Rattle.agent.specs.Feed.{respondBy}
+
+-- the reply to what a line says
+unfoldable pub replyTo : Library → AgentState → Option Call → Reply
+replyTo library s said = respondBy (isWellFormed library s) library s said
+
+-- the answers to what lines say, each on the state that the one before it left
+unfoldable pub answersTo : Library → AgentState → List (Option Call) → List ℕ
+answersTo library s [] = []
+answersTo library s (said ∷ more) =
+    resultText (replyTo library s said .result) ++ answersTo library (replyTo library s said .state) more
+
+-- the answers to the lines of an input, from the loaded state
+unfoldable pub outputOf : List ℕ → List ℕ → List ℕ
+outputOf bytes input = answersTo (libraryOf bytes) (loaded (libraryOf bytes)) (map callOf (lines input))
+
+-- X and the number where the library is refused
+abbrev pub refusedWith : ℕ → List ℕ
+refusedWith number = resultText (record { answer = Refused number; changes = [] })
+
+-- the whole output
+unfoldable pub printedFor : List ℕ → List ℕ → List ℕ
+printedFor bytes input = cond (eqb (refusalOf bytes) 0) (outputOf bytes input) (refusedWith (refusalOf bytes))
