@@ -1,4 +1,5 @@
 pub mod SessionLaws
 pub mod AnswerLaws
+pub mod PieceLaws
 pub mod OutputLaws
 pub mod SmallCases

@@ -1,12 +1,12 @@
 -- What a journal of a well-formed agent prints is what the definition computes, since each of its calls is the model's.
 use Prim.Native.Nat.{ℕ, _≤_}
 use mathlib.Core.Path.{_≡_, refl, ap, sym, subst⁻¹, _∙_}
-use mathlib.Core.Bool.{Bool, true, cond, _&&_}
+use mathlib.Core.Bool.{Bool, true, false, _&&_}
 use mathlib.Core.Option.{Option, none, some}
 use mathlib.Core.List.{List, [], _∷_, _++_, map}
 use lib.Dec.{leb, eqb}
 use lib.ListN.{length, take}
-use borrow.Author.Tests.{le-leb, eq-eqb}
+use borrow.Author.Tests.{le-leb, eq-eqb, ne-eqb}
 use Rattle.lists.specs.Counts.{each}
 use Rattle.lists.proofs.BoolLaws.{and-both}
 use Rattle.library.specs.Layout.{libraryOf}
@@ -35,7 +35,7 @@ use Rattle.agent.specs.Feed.{respondBy, Journal}
 use Rattle.agent.proofs.CallsLaws.{test-parts, test-within}
 use Rattle.journal.specs.Session.{Session}
 use Rattle.journal.specs.Answers.{callIn, textOf, linksOf, Answers}
-use Rattle.journal.specs.Output.{replyTo, answersTo, outputOf, printedFor}
+use Rattle.journal.specs.Output.{replyTo, answersTo, outputOf, refusedWith, printedFor}
 use Rattle.journal.proofs.SessionLaws.{session-journal}
 use Rattle.journal.proofs.AnswerLaws.{journal-chain}
 
@@ -134,3 +134,10 @@ module _ (bytes : List ℕ) (accepted : refusalOf bytes ≡ 0) (l : Loaded) (siz
     pub session-printed : output ≡ printedFor bytes input
     unfolding printedFor
     session-printed = session-output ∙ rw accepted
+
+-- where load refuses the library the output is X and its number
+pub refused-printed : (bytes input : List ℕ) (l : Loaded) → Loads bytes l → (l .refusal ≡ 0 → ⊥) → refusedWith (l .refusal) ≡ printedFor bytes input
+unfolding printedFor
+refused-printed bytes input l loads refused =
+    let other : eqb (refusalOf bytes) 0 ≡ false = ne-eqb (refusalOf bytes) 0 (λ e. refused (loads .number ∙ e)) in
+    rw (loads .number, other)

@@ -31,4 +31,5 @@ pub data Session : Agent → Carry → List ℕ → List ℕ → Agent → Type 
   stops : {a : Agent} {carry : Carry} → shownLast Nothing ≡ atEnd (begun carry) → Session a carry [] [] a
   -- or it tells a line: a newline is fed, which ends it
   ends : {a : Agent} {carry : Carry} (call : Spoken) → shownLast (Line call) ≡ atEnd (begun carry)
-      → (written : List ℕ) (r : Fed) → Writes a carry (newline ∷ []) written r → r .read ≡ 1 → Session a carry [] written (r .agent)
+      → (written : List ℕ) (r : Fed) → Writes a carry (newline ∷ []) written r → r .read ≡ 1
+      → Session a carry [] written (r .agent)
