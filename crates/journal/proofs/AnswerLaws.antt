@@ -2,20 +2,18 @@
 -- So demand 3 holds of what a session prints.
 use Prim.Native.Nat.{ℕ, _+_}
 use mathlib.Core.Path.{_≡_, refl, ap, sym, subst, _∙_}
-use mathlib.Core.Bool.{false}
 use mathlib.Core.Option.{Option, none, some}
 use mathlib.Core.List.{List, [], _∷_, _++_, map, map-append, append-nil, append-assoc}
 use native.Mathlib.Omega.{arith}
 use lib.Dec.{eqb}
 use lib.ListN.{length, length-map}
-use Rattle.lists.specs.Search.{any}
-use Rattle.lists.specs.Counts.{bit, total, count, each}
+use Rattle.lists.specs.Counts.{bit, count, each}
 use Rattle.lists.proofs.CountLaws.{total-append}
 use Rattle.lists.proofs.TestCounts.{any-none}
 use Rattle.library.specs.Refusal.{refusalOf}
 use Rattle.model.specs.State.{Call, Result, viewResult}
 use Rattle.model.specs.Lines.{lineOf}
-use Rattle.printing.specs.LineText.{newline, lineText, resultText, IsLine}
+use Rattle.printing.specs.LineText.{newline, resultText, IsLine}
 use Rattle.printing.proofs.LineLaws.{one-newline}
 use Rattle.reading.specs.Call.{callOf}
 use Rattle.stream.specs.declared.Carry.{Carry}

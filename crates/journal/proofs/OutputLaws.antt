@@ -11,8 +11,8 @@ use Rattle.lists.specs.Counts.{each}
 use Rattle.lists.proofs.BoolLaws.{and-both}
 use Rattle.library.specs.Layout.{libraryOf}
 use Rattle.library.specs.Refusal.{refusalOf}
-use Rattle.model.specs.State.{AgentState, Call, Reply, viewResult}
-use Rattle.model.specs.Calls.{callBy, call, loaded}
+use Rattle.model.specs.State.{AgentState, Call, Reply}
+use Rattle.model.specs.Calls.{callBy, call}
 use Rattle.model.specs.WellFormed.{isWellFormed}
 use Rattle.model.proofs.CallLaws.{promises}
 use Rattle.model.proofs.AcceptedLibrary.{acceptable, loaded-well-formed}
@@ -34,7 +34,7 @@ use Rattle.agent.specs.Chain as Chain
 use Rattle.agent.specs.Feed.{respondBy, Journal}
 use Rattle.agent.proofs.CallsLaws.{test-parts, test-within}
 use Rattle.journal.specs.Session.{Session}
-use Rattle.journal.specs.Answers.{callIn, textOf, linksOf, Answers}
+use Rattle.journal.specs.Answers.{callIn, textOf, linksOf}
 use Rattle.journal.specs.Output.{replyTo, answersTo, outputOf, refusedWith, printedFor}
 use Rattle.journal.proofs.SessionLaws.{session-journal}
 use Rattle.journal.proofs.AnswerLaws.{journal-chain}

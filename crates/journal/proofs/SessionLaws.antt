@@ -1,5 +1,5 @@
 -- A session is a journal: each line of the input is answered once, in order, whatever its length and however the input came in pieces.
-use Prim.Native.Nat.{ℕ, zero, suc, _+_, _≤_}
+use Prim.Native.Nat.{ℕ, _+_, _≤_}
 use native.Mathlib.Omega.{arith}
 use mathlib.Core.Path.{_≡_, refl, ap, sym, subst, subst⁻¹, _∙_}
 use mathlib.Core.Option.{Option, none, some}
@@ -7,21 +7,19 @@ use mathlib.Core.List.{List, [], _∷_, _++_, map, append-nil, append-assoc}
 use lib.ListN.{length, length-append, take, drop}
 use lib.Seq.{length-sets, take-at}
 use Rattle.model.specs.State.{Call, viewResult}
-use Rattle.reading.specs.declared.Spoken.{Spoken}
 use Rattle.reading.specs.Call.{callOf}
 use Rattle.reading.specs.Spoken.{meaning}
 use Rattle.stream.specs.declared.Carry.{Carry}
-use Rattle.stream.specs.declared.Last.the-variants.{Line, Nothing}
 use Rattle.stream.specs.Lines.{lines}
-use Rattle.stream.specs.Carried.{begun, said}
-use Rattle.stream.specs.Calls.{atEnd, callsFrom, shownLast}
+use Rattle.stream.specs.Carried.{begun}
+use Rattle.stream.specs.Calls.{atEnd, callsFrom}
 use Rattle.stream.proofs.EveryLine.{calls-lines}
 use Rattle.printing.specs.LineText.{newline, resultText}
 use Rattle.printing.specs.Writing.{Wrote}
 use Rattle.printing.proofs.WritingLaws.{whole}
 use Rattle.agent.specs.declared.Agent.{Agent}
 use Rattle.agent.specs.declared.feed.Fed.{Fed}
-use Rattle.agent.specs.Feed.{Feeds, unreadable, Journal, start, unread, answered}
+use Rattle.agent.specs.Feed.{unreadable, Journal, start, unread, answered}
 use Rattle.journal.specs.Session.{Writes, Session, feeds, stops, ends}
 
 -- ---- One feed
@@ -58,10 +56,6 @@ newline-ends : (held : Option (List ℕ)) (call : Option Call) → call ∷ [] �
 newline-ends none call e = refl
 newline-ends (some []) call e = absurd (let n : 1 ≡ 0 = ap length e in omega (arith, n))
 newline-ends (some (b ∷ line)) call e = refl
-
--- what a newline says after a line so far is one call
-newline-one : (held : Option (List ℕ)) → length (callsFrom held (newline ∷ [])) ≡ 1
-newline-one held = refl
 
 none-left : {A : Type 0} (xs : List A) → length xs ≡ 0 → xs ≡ []
 none-left [] e = refl
