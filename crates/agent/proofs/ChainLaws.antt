@@ -28,11 +28,11 @@ use Rattle.agent.specs.Calls.{isWellFormedWith, isWellFormedAgent, viewR
 use Rattle.agent.specs.Chain.{Link, Chain, start, then, entryOf, entriesOf}
 
 -- an agent that holds this library, accepted, in a well-formed state
-record Held (bytes : List ℕ) (a : Agent) : Type 0 where
-  size : a .length ≤ length (a .library)
-  bytes-are : bytesOf a ≡ bytes
-  fit : countsFit (a .state) ≡ true
-  formed : isWellFormed (libraryOf bytes) (viewState (a .state)) ≡ true
+pub record Held (bytes : List ℕ) (a : Agent) : Type 0 where
+  pub size : a .length ≤ length (a .library)
+  pub bytes-are : bytesOf a ≡ bytes
+  pub fit : countsFit (a .state) ≡ true
+  pub formed : isWellFormed (libraryOf bytes) (viewState (a .state)) ≡ true
 
 module _ (bytes : List ℕ) (accepted : refusalOf bytes ≡ 0) where
   held-formed : (a : Agent) → Held bytes a → isWellFormedAgent a ≡ true
@@ -43,7 +43,7 @@ module _ (bytes : List ℕ) (accepted : refusalOf bytes ≡ 0) where
       and-both (leb (a .length) (length (a .library))) _ (le-leb _ _ (h .size)) own
 
   -- a call's contract is the model's call
-  held-call : (a : Agent) → Held bytes a → (link : Link) → Calls a (link .call) (link .given)
+  pub held-call : (a : Agent) → Held bytes a → (link : Link) → Calls a (link .call) (link .given)
       → viewReplied (link .given) ≡ call (libraryOf bytes) (viewState (a .state)) (link .call)
   unfolding call
   held-call a h link c =
@@ -51,7 +51,7 @@ module _ (bytes : List ℕ) (accepted : refusalOf bytes ≡ 0) where
       ∙ ap (λ (b : List ℕ). callBy (isWellFormed (libraryOf bytes) (viewState (a .state))) (libraryOf b) (viewState (a .state)) (link .call)) (h .bytes-are)
 
   -- and the agent after it is such an agent again
-  held-next : (a : Agent) → Held bytes a → (link : Link) → Calls a (link .call) (link .given) → Held bytes (link .given .agent)
+  pub held-next : (a : Agent) → Held bytes a → (link : Link) → Calls a (link .call) (link .given) → Held bytes (link .given .agent)
   held-next a h link c =
       let next = link .given .agent in
       let same = held-call a h link c in
@@ -74,7 +74,7 @@ module _ (bytes : List ℕ) (accepted : refusalOf bytes ≡ 0) where
   chain-end (then link c rest) = chain-end rest
 
   -- the agent that load gives holds the library, in the loaded state
-  loaded-held : (l : Loaded) → length (l .agent .library) ≡ 19332 → Loads bytes l → Held bytes (l .agent)
+  pub loaded-held : (l : Loaded) → length (l .agent .library) ≡ 19332 → Loads bytes l → Held bytes (l .agent)
   loaded-held l size h = record {
     size = subst⁻¹ (λ (n : ℕ). l .agent .length ≤ n) size (h .within);
     bytes-are = h .copy accepted;

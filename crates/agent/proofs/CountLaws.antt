@@ -2,25 +2,24 @@
 use Prim.Native.Nat.{ℕ, suc, _+_, _-_, _<_, _≤_, min}
 use native.Mathlib.Omega.{arith}
 use mathlib.Core.Path.{_≡_, refl, ap, _∙_}
-use mathlib.Core.Bool.{Bool, true}
+use mathlib.Core.Bool.{true}
 use mathlib.Core.List.{List, [], _∷_, _++_}
 use lib.ListN.{length, take, set, getD, length-take}
 use lib.Seq.{take-suc-set, take-set-lt, getD-take}
-use lib.Dec.{leb, ltb}
+use lib.Dec.{ltb}
 use borrow.Author.Tests.{le-leb, leb-true, ltb-true}
 use Rattle.lists.specs.Search.{all}
 use Rattle.lists.specs.Gap.{removeAt, closeGap}
-use Rattle.lists.proofs.BoolLaws.{by-cases, and-parts, and-both}
+use Rattle.lists.proofs.BoolLaws.{by-cases, and-both}
 use Rattle.lists.proofs.AllLaws.{all-at, all-set}
 use Rattle.lists.proofs.TestLaws.{all-joined, all-removed}
 use Rattle.lists.proofs.GapLaws.{gap-take, gap-last}
 use Rattle.belief.specs.declared.Beliefs.{Beliefs}
-use Rattle.belief.specs.Beliefs.{mostBeliefs}
 use Rattle.model.specs.declared.Event.{Event}
 use Rattle.model.specs.State.{mostStacks, mostQueued}
 use Rattle.state.specs.declared.Stack.{Stack}
 use Rattle.state.specs.declared.State.{State}
-use Rattle.state.specs.View.{mostBelow, queuedOf, stackedOf, countsFit}
+use Rattle.state.specs.View.{queuedOf, stackedOf, countsFit}
 use Rattle.state.specs.Queue.{withQueue, enqueue, dequeue, putEvent}
 use Rattle.state.specs.Stacks.{withStacks, openLast, putAt, dropAt, turnLast}
 use Rattle.state.proofs.CountParts.{isShallow, Counts, counts-parts, counts-whole}

@@ -5,7 +5,7 @@ use mathlib.Core.Bool.{Bool, true, false, _&&_}
 use mathlib.Core.Option.{Option, none, some}
 use mathlib.Core.List.{List, [], _∷_, _++_}
 use lib.Dec.{leb, eqb}
-use lib.ListN.{length, take}
+use lib.ListN.{length}
 use borrow.Author.Tests.{eq-eqb}
 use Rattle.lists.proofs.BoolLaws.{both-ways, and-parts, and-both}
 use Rattle.library.specs.Layout.{libraryOf}
@@ -22,12 +22,11 @@ use Rattle.formed.specs.Formed.{isStateFormed, isFormed}
 use Rattle.printing.specs.LineText.{resultText}
 use Rattle.agent.specs.declared.Acted.{Acted}
 use Rattle.load.specs.declared.Agent.{Agent}
-use Rattle.agent.specs.declared.Replied.{Replied}
 use Rattle.agent.specs.View.{viewActed, plainly}
 use Rattle.agent.specs.Gives.{Gives}
 use Rattle.load.specs.Load.{bytesOf}
 use Rattle.agent.specs.Cycle.{WellFormedState}
-use Rattle.agent.specs.Calls.{isWellFormedWith, isWellFormedAgent, Calls}
+use Rattle.agent.specs.Calls.{isWellFormedWith, isWellFormedAgent}
 use Rattle.agent.specs.Feed.{respondBy, unreadable, refusalFor, Trusted, Responds, Runs, none-yet, then, inState, Journal, start, unread, answered}
 use Rattle.agent.proofs.CallsLaws.{test-parts}
 

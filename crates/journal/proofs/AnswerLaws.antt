@@ -19,10 +19,10 @@ use Rattle.reading.specs.Call.{callOf}
 use Rattle.stream.specs.declared.Carry.{Carry}
 use Rattle.stream.specs.Lines.{lines}
 use Rattle.stream.specs.Carried.{begun}
-use Rattle.agent.specs.declared.Agent.{Agent}
-use Rattle.agent.specs.declared.Loaded.{Loaded}
+use Rattle.load.specs.declared.Agent.{Agent}
+use Rattle.load.specs.declared.Loaded.{Loaded}
 use Rattle.agent.specs.declared.Replied.{Replied}
-use Rattle.agent.specs.Load.{Loads}
+use Rattle.load.specs.Load.{Loads}
 use Rattle.agent.specs.Calls.{Calls}
 use Rattle.agent.specs.Chain.{Link, Chain}
 use Rattle.agent.specs.Chain as Chain

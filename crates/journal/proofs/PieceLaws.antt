@@ -15,7 +15,7 @@ use Rattle.stream.specs.Lines.{isNewline}
 use Rattle.stream.specs.Carried.{begun, more}
 use Rattle.stream.specs.Calls.{callsFrom}
 use Rattle.printing.specs.LineText.{newline, mostLine}
-use Rattle.agent.specs.declared.Agent.{Agent}
+use Rattle.load.specs.declared.Agent.{Agent}
 use Rattle.agent.specs.declared.feed.Fed.{Fed}
 use Rattle.agent.specs.Chain.{Link}
 use Rattle.agent.specs.Feed.{Journal, Feeds}

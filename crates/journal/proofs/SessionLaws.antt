@@ -17,7 +17,7 @@ use Rattle.stream.proofs.EveryLine.{calls-lines}
 use Rattle.printing.specs.LineText.{newline, resultText}
 use Rattle.printing.specs.Writing.{Wrote}
 use Rattle.printing.proofs.WritingLaws.{whole}
-use Rattle.agent.specs.declared.Agent.{Agent}
+use Rattle.load.specs.declared.Agent.{Agent}
 use Rattle.agent.specs.declared.feed.Fed.{Fed}
 use Rattle.agent.specs.Feed.{unreadable, Journal, start, unread, answered}
 use Rattle.journal.specs.Session.{Writes, Session, feeds, stops, ends}
@@ -33,7 +33,7 @@ front {before} {after} {text} {wrote} w h =
     ap (take wrote) (whole room w) ∙ take-at text (drop wrote before) wrote size
 
 writes-text : {a : Agent} {carry : Carry} {piece written : List ℕ} {r : Fed} (w : Writes a carry piece written r) → written ≡ w .feeds .text
-writes-text w = w .first ∙ front (w .feeds .written) (w .within)
+writes-text w = w .first ∙ front (w .feeds .written) (w .feeds .room)
 
 -- ---- Journals, one after the other
 

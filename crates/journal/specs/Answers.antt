@@ -12,7 +12,7 @@ use Rattle.state.specs.View.{viewState}
 use Rattle.printing.specs.LineText.{resultText}
 use Rattle.reading.specs.Call.{callOf}
 use Rattle.stream.specs.Lines.{lines}
-use Rattle.agent.specs.declared.Agent.{Agent}
+use Rattle.load.specs.declared.Agent.{Agent}
 use Rattle.agent.specs.Chain.{Link, Chain, entriesOf}
 use Rattle.agent.specs.Feed.{unreadable}
 

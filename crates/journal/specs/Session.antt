@@ -1,16 +1,16 @@
 -- A whole input (document 01, "Journal"): feeds, each of which its contract ensures of the agent and the line so far before it.
 -- So what is said of a session is said of the code, by its contracts alone.
-use Prim.Native.Nat.{ℕ, _≤_}
+use Prim.Native.Nat.{ℕ}
 use mathlib.Core.Path.{_≡_}
 use mathlib.Core.List.{List, [], _∷_, _++_}
-use lib.ListN.{length, take, drop}
+use lib.ListN.{take, drop}
 use Rattle.reading.specs.declared.Spoken.{Spoken}
 use Rattle.stream.specs.declared.Carry.{Carry}
 use Rattle.stream.specs.declared.Last.the-variants.{Line, Nothing}
 use Rattle.stream.specs.Carried.{begun}
 use Rattle.stream.specs.Calls.{atEnd, shownLast}
 use Rattle.printing.specs.LineText.{newline}
-use Rattle.agent.specs.declared.Agent.{Agent}
+use Rattle.load.specs.declared.Agent.{Agent}
 use Rattle.agent.specs.declared.feed.Fed.{Fed}
 use Rattle.agent.specs.Feed.{Feeds}
 
@@ -19,7 +19,6 @@ pub record Writes (a : Agent) (carry : Carry) (piece written : List ℕ) (r : Fe
   pub before : List ℕ
   pub after : List ℕ
   pub feeds : Feeds a carry piece before after r
-  pub within : r .wrote ≤ length after
   pub first : written ≡ take (r .wrote) after
 
 -- from an agent and the line so far, by the input that is left and the output that is written for it, to the last agent

@@ -10,7 +10,6 @@ use Rattle.lists.specs.Search.{any, all}
 use Rattle.literal.specs.declared.Literal.{Literal}
 use Rattle.literal.specs.Literal.{negative}
 use Rattle.belief.specs.declared.Change.{Change}
-use Rattle.model.specs.declared.Answered.{Answered}
 use Rattle.model.specs.declared.Answer.{Answer}
 use Rattle.model.specs.declared.Answer.the-variants.{Taken, Idle, Dropped, Unmet, MadeExternal, MadeGoal, Stepped, Missed, Done, Posted, Succeeded, Failed, Refused}
 use Rattle.model.specs.State.{mostChanges, Result}

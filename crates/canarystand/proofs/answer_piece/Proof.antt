@@ -3,7 +3,7 @@ use borrow.Author.Needs.{needs}
 use native.Mathlib.Omega.{arith}
 use Prim.Native.Nat.{_-_, _≤_}
 use mathlib.Core.Path.{_≡_, refl, _∙_}
-use lib.ListN.{length, length-take, length-drop}
+use lib.ListN.{length, length-take}
 use Rattle.canarystand.proofs.answer_piece.Statement.{statement}
 use Rattle.canarystand.proofs.answer_piece.Tie as tie
 

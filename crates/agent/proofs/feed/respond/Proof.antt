@@ -1,6 +1,6 @@
 -- `agent::feed::respond` meets its contract: the call is done, or refused.
 use borrow.Author.Needs.{needs}
-use mathlib.Core.Path.{_≡_, ap, _∙_}
+use mathlib.Core.Path.{ap, _∙_}
 use Rattle.model.specs.declared.Answer.the-variants.{Refused}
 use Rattle.reading.specs.Spoken.{meaning}
 use Rattle.agent.specs.View.{plainly}

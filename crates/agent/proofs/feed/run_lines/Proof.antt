@@ -1,15 +1,10 @@
 -- `agent::feed::run_lines` meets its contract. The loop's invariant: what is read was run and printed, and what is trusted of the state still holds.
 use borrow.Author.Needs.{needs}
 use native.Mathlib.Omega.{arith}
-use Prim.Native.Nat.{ℕ, _-_, _≤_}
+use Prim.Native.Nat.{_-_, _≤_}
 use mathlib.Core.Path.{_≡_, refl, ap, sym, _∙_}
-use mathlib.Core.List.{List}
 use lib.ListN.{length}
 use Rattle.model.specs.declared.Answer.the-variants.{Idle}
-use Rattle.model.specs.declared.Answered.{Answered}
-use Rattle.model.specs.State.{viewResult}
-use Rattle.printing.specs.LineText.{resultText, mostLine}
-use Rattle.printing.specs.Writing.{Wrote}
 use Rattle.stream.specs.Calls.{shown}
 use Rattle.stream.proofs.ChunkLaws.{line-moves}
 use Rattle.agent.specs.View.{plainly}

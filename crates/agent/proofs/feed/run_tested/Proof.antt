@@ -1,6 +1,6 @@
 -- `agent::feed::run_tested` meets its contract: every call is refused, or what the test shows is trusted.
 use borrow.Author.Needs.{needs}
-use mathlib.Core.Path.{_≡_, refl, sym, _∙_}
+use mathlib.Core.Path.{refl, sym, _∙_}
 use borrow.Author.Tests.{not-true, not-false}
 use lib.ListN.{take}
 use lib.Seq.{length-take-le}

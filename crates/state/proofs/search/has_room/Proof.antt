@@ -1,7 +1,7 @@
 -- `state::search::has_room` meets its contract: a goal needs no new stack.
 use borrow.Author.Needs.{needs}
-use mathlib.Core.Path.{_≡_, ap, sym, _∙_}
-use mathlib.Core.Bool.{Bool, false, _||_}
+use mathlib.Core.Path.{ap, sym, _∙_}
+use mathlib.Core.Bool.{Bool, _||_}
 use lib.Dec.{ltb}
 use Rattle.state.proofs.search.has_room.Statement.{statement}
 use Rattle.state.proofs.search.has_room.Tie as tie
