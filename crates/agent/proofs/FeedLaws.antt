@@ -62,6 +62,9 @@ module _ (bytes : List ℕ) (s : State) where
           = h .means ∙ ap (λ (b : Bool). callBy b (libraryOf bytes) (viewState s) c) (sym (w .formed)) in
           subst⁻¹ (λ (y : Reply). isWellFormed (libraryOf bytes) (y .state) ≡ true) same (promises (libraryOf bytes) (acceptable bytes (w .accepted)) (viewState s) (w .formed) c .formed)
 
+  pub responds-as : {formed : Bool} → formed ≡ true → (c : Option Call) (r : Acted) → Responds bytes true s c r → Responds bytes formed s c r
+  responds-as e c r h = subst⁻¹ (λ (b : Bool). Responds bytes b s c r) e h
+
   pub trusted-next : (formed : Bool) → Trusted formed bytes s → (c : Option Call) (r : Acted) → Responds bytes formed s c r → Trusted formed bytes (r .state)
   trusted-next true t c r h = λ e. responds-kept (t refl) c r h
   trusted-next false t c r h = λ e. both-ways e refl

@@ -1,9 +1,11 @@
 // A chunk of the journal: its lines are run one after the other. The well-formed test is made once, and what it shows is kept.
 ghost use mathlib.Core.Path.{_≡_};
 ghost use mathlib.Core.Bool.{true};
+ghost use mathlib.Core.Option.{some};
+ghost use Rattle.model.specs.State.{cycle};
 ghost use Rattle.reading.specs.Spoken.{meaning};
 ghost use Rattle.agent.specs.Cycle.{WellFormedState};
-ghost use Rattle.agent.specs.Feed.{refusalFor, Trusted, Responds, Rests, RunsChunk, RunsOn, Feeds};
+ghost use Rattle.agent.specs.Feed.{refusalFor, Trusted, Responds, Stays, RunsChunk, RunsOn, Feeds};
 use crate::Acted;
 use crate::answer;
 use crate::calls;
@@ -39,6 +41,12 @@ struct Ran {
     wrote: usize,
 }
 
+// What a line gives: an answer that leaves the state as it is, or it moves the state.
+enum Look {
+    Answered(Answer),
+    Moves,
+}
+
 // ---- One line
 
 // What a line says is done, on a well-formed state.
@@ -52,6 +60,15 @@ fn act(library: &[u8], s: State, spoken: Spoken) -> Acted
         Spoken::Outcome { id, worked } => outcome::tell(library, s, id, worked),
         Spoken::Unreadable => answer::acted(s, Answer::Refused(UNREADABLE)),
     }
+}
+
+fn look_for_idle(s: State) -> Look
+    ensures { λ r. ⌜ Stays true s (some cycle) r ⌝ }
+{
+    if cycle::is_idle(s) {
+        return Look::Answered(Answer::Idle);
+    }
+    Look::Moves
 }
 
 // What a line is refused with where the state is not well formed.
@@ -69,37 +86,37 @@ fn refusal_of(spoken: Spoken) -> u16
     }
 }
 
-// The answer to a line, by whether the state is well formed.
-fn respond(library: &[u8], formed: bool, s: State, spoken: Spoken) -> Acted
-    requires { ⌜ Trusted formed (now library) s ⌝ }
-    ensures { λ r. ⌜ Responds (now (library .entry)) formed s (meaning spoken) r ⌝ }
-{
-    if formed {
-        return act(library, s, spoken);
-    }
-    let refusal = refusal_of(spoken);
-    answer::acted(s, Answer::Refused(refusal))
-}
-
-// Whether the line is a cycle that finds nothing to do: its answer is known without moving the state.
-fn is_idle(formed: bool, s: State, spoken: Spoken) -> bool
-    ensures { λ r. ⌜ (r ≡ true → Rests formed s (meaning spoken)) ⌝ }
+// The answer to a line that leaves the state as it is: a refusal of the line or of the state, or an idle cycle.
+fn look_at(formed: bool, s: State, spoken: Spoken) -> Look
+    ensures { λ r. ⌜ Stays formed s (meaning spoken) r ⌝ }
 {
     if !formed {
-        return false;
+        let refusal = refusal_of(spoken);
+        return Look::Answered(Answer::Refused(refusal));
     }
     match spoken {
         Spoken::Report {
             kind: _,
             literal: _,
-        } => false,
-        Spoken::Cycle => cycle::is_idle(s),
-        Spoken::Outcome { id: _, worked: _ } => false,
-        Spoken::Unreadable => false,
+        } => Look::Moves,
+        Spoken::Cycle => look_for_idle(s),
+        Spoken::Outcome { id: _, worked: _ } => Look::Moves,
+        Spoken::Unreadable => Look::Answered(Answer::Refused(UNREADABLE)),
     }
 }
 
 // ---- A chunk
+
+fn stopped(s: State, carry: Carry, read: usize, wrote: usize) -> Ran
+    ensures { λ r. ⌜ r ≡ record { state = s; carry = carry; read = read; wrote = wrote } ⌝ }
+{
+    Ran {
+        state: s,
+        carry: carry,
+        read: read,
+        wrote: wrote,
+    }
+}
 
 // Lines are run as long as the chunk has one and the output has room for the longest.
 fn run_lines(
@@ -119,41 +136,26 @@ fn run_lines(
     let mut wrote: usize = 0;
     while read < chunk.len() {
         if out.len() - wrote < MOST_LINE {
-            return Ran {
-                state: state,
-                carry: held,
-                read: read,
-                wrote: wrote,
-            };
+            return stopped(state, held, read, wrote);
         }
         let Next::Line { call, at } = stream::next_line(chunk, read, held) else {
             let rest = stream::carried(chunk, read, held);
-            return Ran {
-                state: state,
-                carry: rest,
-                read: chunk.len(),
-                wrote: wrote,
-            };
+            return stopped(state, rest, chunk.len(), wrote);
         };
         held = stream::no_line();
         read = at;
-        if is_idle(formed, state, call) {
-            let idle = answer::plain_result(Answer::Idle);
-            wrote = printing::print_result(out, wrote, idle);
+        let Look::Answered(answer) = look_at(formed, state, call) else {
+            let acted = act(library, state, call);
+            let after = acted.state;
+            let result = acted.result;
+            wrote = printing::print_result(out, wrote, result);
+            state = after;
             continue;
-        }
-        let acted = respond(library, formed, state, call);
-        let after = acted.state;
-        let result = acted.result;
+        };
+        let result = answer::plain_result(answer);
         wrote = printing::print_result(out, wrote, result);
-        state = after;
     }
-    Ran {
-        state: state,
-        carry: held,
-        read: read,
-        wrote: wrote,
-    }
+    stopped(state, held, read, wrote)
 }
 
 // The same on the library in the first `length` bytes, tested first.

@@ -14,9 +14,10 @@ use Rattle.literal.specs.declared.Literal.{Literal}
 use Rattle.literal.specs.Literal.{negative}
 use Rattle.model.specs.State.{Call, report, cycle, outcome}
 use Rattle.printing.specs.Decimal.{decimal}
+use Rattle.printing.specs.LineText.{signByte, literalText}
 use Rattle.printing.proofs.DecimalLaws.{decimal-small, decimal-more}
 use Rattle.reading.specs.Call.{fields, digitsFrom, number, largestNumber, largestPredicate, headOf, field, termsOf, reportOf, outcomeOf, byLetter, callOf}
-use Rattle.reading.specs.Printed.{signOf, literalText, callText, isStored}
+use Rattle.reading.specs.Printed.{callText, isStored}
 use Rattle.reading.proofs.NumberLaws.{number-of, digits-more, read-last, read-more}
 use Rattle.reading.proofs.PlaceLaws.{afterSign, sign-line}
 use Rattle.reading.proofs.CallLaws.{letter-only, letter-then, told}
@@ -63,16 +64,16 @@ module _ (most n : ℕ) (fits : n ≤ most) (stored : n ≤ largestNumber) (k : 
 
 module _ (head : ℕ) (stored : head ≤ largestNumber) (k : ℕ → List (List ℕ) → Option Call) where
   -- sign and predicate give the head
-  signed-back : (texts : List (List ℕ)) → afterSign (signOf head) k (head % negative) texts ≡ k head texts
+  signed-back : (texts : List (List ℕ)) → afterSign (signByte head) k (head % negative) texts ≡ k head texts
   signed-back texts =
       by-cases (ltb head negative)
       (λ e. let low = ltb-true head negative e in let same : head % negative ≡ head = omega arith in rw (e, same))
       (λ e. let high = ltb-false head negative e in let same : head % negative + negative ≡ head = omega arith in rw (e, same))
 
-  printed-head : (rest : List ℕ) → field headOf (fields (signOf head ∷ (decimal (head % negative) ++ (32 ∷ rest)))) k ≡ k head (fields rest)
+  printed-head : (rest : List ℕ) → field headOf (fields (signByte head ∷ (decimal (head % negative) ++ (32 ∷ rest)))) k ≡ k head (fields rest)
   printed-head rest =
-      sign-line k (signOf head) (decimal (head % negative) ++ (32 ∷ rest))
-      ∙ printed-more largestPredicate (head % negative) (omega arith) (omega arith) (afterSign (signOf head) k) rest
+      sign-line k (signByte head) (decimal (head % negative) ++ (32 ∷ rest))
+      ∙ printed-more largestPredicate (head % negative) (omega arith) (omega arith) (afterSign (signByte head) k) rest
       ∙ signed-back (fields rest)
 
 module _ (kind : ℕ) (l : Literal) (first : l .first ≤ largestNumber) (second : l .second ≤ largestNumber) (third : l .third ≤ largestNumber) where
@@ -83,10 +84,10 @@ module _ (kind : ℕ) (l : Literal) (first : l .first ≤ largestNumber) (second
       ∙ printed-more largestNumber (l .second) second second _ (decimal (l .third))
       ∙ printed-last largestNumber (l .third) third third _
 
-  printed-report : kind ≤ largestNumber → l .head ≤ largestNumber → reportOf (fields (decimal kind ++ (32 ∷ literalText l))) ≡ some (report kind l)
+  printed-report : kind ≤ largestNumber → l .head ≤ largestNumber → reportOf (fields (decimal kind ++ literalText l)) ≡ some (report kind l)
   unfolding literalText
   printed-report kinds heads =
-      printed-more largestNumber kind kinds kinds _ (literalText l)
+      printed-more largestNumber kind kinds kinds _ _
       ∙ printed-head (l .head) heads (termsOf kind) _
       ∙ printed-terms
 
@@ -117,7 +118,7 @@ reads-back (report kind l) h =
     let p2 = and-parts (leb (l .head) largestNumber) _ (p1 .1) in
     let p3 = and-parts (leb (l .first) largestNumber) _ (p2 .1) in
     let p4 = and-parts (leb (l .second) largestNumber) (leb (l .third) largestNumber) (p3 .1) in
-    letter-then byLetter letter-space 80 (decimal kind ++ (32 ∷ literalText l))
+    letter-then byLetter letter-space 80 (decimal kind ++ literalText l)
     ∙ printed-report kind l (leb-true _ _ (p3 .0)) (leb-true _ _ (p4 .0)) (leb-true _ _ (p4 .1)) (leb-true _ _ (p1 .0)) (leb-true _ _ (p2 .0))
 reads-back cycle h = letter-only byLetter letter-space 67
 reads-back (outcome id worked) h =

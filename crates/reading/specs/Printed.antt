@@ -1,26 +1,16 @@
 -- A call as a line that says it (document 01, "Journal").
-use Prim.Native.Nat.{ℕ, _%_}
+use Prim.Native.Nat.{ℕ}
 use mathlib.Core.Bool.{Bool, true, cond, _&&_}
 use mathlib.Core.List.{List, [], _∷_, _++_}
-use lib.Dec.{ltb, leb}
-use Rattle.literal.specs.declared.Literal.{Literal}
-use Rattle.literal.specs.Literal.{negative}
+use lib.Dec.{leb}
 use Rattle.model.specs.State.{Call, report, cycle, outcome}
 use Rattle.printing.specs.Decimal.{decimal}
+use Rattle.printing.specs.LineText.{literalText}
 use Rattle.reading.specs.Call.{largestNumber}
-
-abbrev pub signOf : ℕ → ℕ
-signOf head = cond (ltb head negative) 43 45
-
--- sign and predicate, then three terms
-unfoldable pub literalText : Literal → List ℕ
-literalText l =
-    signOf (l .head) ∷ (decimal (l .head % negative)
-    ++ (32 ∷ (decimal (l .first) ++ (32 ∷ (decimal (l .second) ++ (32 ∷ decimal (l .third)))))))
 
 -- the line without its newline
 unfoldable pub callText : Call → List ℕ
-callText (report kind literal) = 80 ∷ 32 ∷ (decimal kind ++ (32 ∷ literalText literal))
+callText (report kind literal) = 80 ∷ 32 ∷ (decimal kind ++ literalText literal)
 callText cycle = 67 ∷ []
 callText (outcome id worked) = 79 ∷ 32 ∷ (decimal id ++ (32 ∷ cond worked 49 48 ∷ []))
 

@@ -4,12 +4,11 @@ use native.Mathlib.Omega.{arith}
 use Prim.Native.Nat.{_-_, _≤_}
 use mathlib.Core.Path.{_≡_, refl, ap, sym, _∙_}
 use lib.ListN.{length}
-use Rattle.model.specs.declared.Answer.the-variants.{Idle}
 use Rattle.stream.specs.Calls.{shown}
 use Rattle.stream.proofs.ChunkLaws.{line-moves}
 use Rattle.agent.specs.View.{plainly}
 use Rattle.agent.specs.Feed.{Trusted, Progress}
-use Rattle.agent.proofs.FeedLaws.{trusted-next}
+use Rattle.agent.proofs.FeedLaws.{responds-as, trusted-next}
 use Rattle.agent.proofs.ProgressLaws.{progress-start, progress-line, progress-used}
 use Rattle.agent.proofs.feed.run_lines.Statement.{statement}
 use Rattle.agent.proofs.feed.run_lines.Tie as tie
@@ -28,11 +27,14 @@ loop-holds c = (omega arith, omega arith, refl, (c .before .before .before .pre)
 sub-if1 : tie.Need-sub-if1 Inv-loop μ-loop
 sub-if1 c = search needs
 
+stopped-requires : tie.Need-stopped-requires Inv-loop μ-loop
+stopped-requires c κs = search needs
+
 same-length : tie.Need-same-length Inv-loop μ-loop
 same-length c = search needs
 
 returns : tie.Need-returns Inv-loop μ-loop
-returns c = record { progress = (c .before .before .loop) .inv .4; within = (c .before .before .loop) .inv .0; room = (c .before .before .loop) .inv .1; whole = λ h. omega arith }
+returns c = rw ((c .stopped) .ensures) (record { progress = (c .before .before .before .loop) .inv .4; within = (c .before .before .before .loop) .inv .0; room = (c .before .before .before .loop) .inv .1; whole = λ h. omega arith })
 
 next-line-requires : tie.Need-next-line-requires Inv-loop μ-loop
 next-line-requires c κs = search needs
@@ -46,57 +48,65 @@ enum-told c = search needs
 carried-requires : tie.Need-carried-requires Inv-loop μ-loop
 carried-requires c κs = search needs
 
+stopped-requires-2 : tie.Need-stopped-requires-2 Inv-loop μ-loop
+stopped-requires-2 c κs = search needs
+
 same-length-2 : tie.Need-same-length-2 Inv-loop μ-loop
 same-length-2 c = search needs
 
 returns-2 : tie.Need-returns-2 Inv-loop μ-loop
 returns-2 c =
-    let told = sym (ap shown ((c .before .enum-told) .given .1)) ∙ (c .before .before .before .next-line) .ensures in
-    record {
-      progress = progress-used _ _ _ _ _ _ ((c .before .before .before .before .before .before .loop) .inv .4) told ((c .carried) .result) ((c .carried) .ensures);
+    let told = sym (ap shown ((c .before .before .enum-told) .given .1)) ∙ (c .before .before .before .before .next-line) .ensures in
+    rw ((c .stopped2) .ensures) (record {
+      progress = progress-used _ _ _ _ _ _ ((c .before .before .before .before .before .before .before .loop) .inv .4) told ((c .before .carried) .result) ((c .before .carried) .ensures);
       within = omega arith;
-      room = (c .before .before .before .before .before .before .loop) .inv .1;
+      room = (c .before .before .before .before .before .before .before .loop) .inv .1;
       whole = λ h. absurd (omega arith);
-    }
+    })
 
 no-line-requires : tie.Need-no-line-requires Inv-loop μ-loop
 no-line-requires c κs = search needs
 
-is-idle-requires : tie.Need-is-idle-requires Inv-loop μ-loop
-is-idle-requires c κs = search needs
+look-at-requires : tie.Need-look-at-requires Inv-loop μ-loop
+look-at-requires c κs = search needs
 
-plain-result-requires : tie.Need-plain-result-requires Inv-loop μ-loop
-plain-result-requires c κs = search needs
+enum-known-answer : tie.Need-enum-known-answer Inv-loop μ-loop
+enum-known-answer c = search needs
+
+enum-told-2 : tie.Need-enum-told-2 Inv-loop μ-loop
+enum-told-2 c = search needs
+
+act-requires : tie.Need-act-requires Inv-loop μ-loop
+act-requires c κs = (c .before .before .before .before .before .before .before .before .before .before .loop) .inv .3 (rw ((c .enum-told2) .given .1) at ((c .before .before .look-at) .ensures))
 
 print-result-requires : tie.Need-print-result-requires Inv-loop μ-loop
 print-result-requires c κs = search needs
 
 loop-less : tie.Need-loop-less Inv-loop μ-loop
 loop-less c =
-    let l = (c .before .before .before .before .before .before .before .before .before .before .before .before .before .before .loop) in
-    let g = (c .before .before .before .before .before .before .before .before .before .call) .given in
-    let moves = line-moves _ (l .read) (l .held) (g .0 .0) (g .0 .1 .0) (sym (ap shown (g .1)) ∙ (c .before .before .before .before .before .before .before .before .before .before .before .next-line) .ensures) in
+    let l = (c .before .before .before .before .before .before .before .before .before .before .before .before .before .before .before .before .before .loop) in
+    let g = (c .before .before .before .before .before .before .before .before .before .before .before .before .call) .given in
+    let moves = line-moves _ (l .read) (l .held) (g .0 .0) (g .0 .1 .0) (sym (ap shown (g .1)) ∙ (c .before .before .before .before .before .before .before .before .before .before .before .before .before .before .next-line) .ensures) in
     omega (arith, moves .0, moves .1)
 
 loop-again : tie.Need-loop-again Inv-loop μ-loop
 loop-again c =
-    let l = (c .before .before .before .before .before .before .before .before .before .before .before .before .before .before .loop) in
-    let g = (c .before .before .before .before .before .before .before .before .before .call) .given in
-    let told = sym (ap shown (g .1)) ∙ (c .before .before .before .before .before .before .before .before .before .before .before .next-line) .ensures in
+    let l = (c .before .before .before .before .before .before .before .before .before .before .before .before .before .before .before .before .before .loop) in
+    let g = (c .before .before .before .before .before .before .before .before .before .before .before .before .call) .given in
+    let told = sym (ap shown (g .1)) ∙ (c .before .before .before .before .before .before .before .before .before .before .before .before .before .before .next-line) .ensures in
     let moves = line-moves _ (l .read) (l .held) (g .0 .0) (g .0 .1 .0) told in
-    let answer = (c .before .before .before .before .plain-result) .ensures in
-    let w = rw answer at ((c .before .before .print-result) .ensures .line (omega arith)) in
+    let w = (c .before .before .print-result) .ensures .line (omega arith) in
     let kept = (c .before .before .print-result) .kept .0 in
-    let rests = (c .before .before .before .before .before .before .is-idle) .ensures ((c .before .before .before .before .before .if2) .taken) _ (l .inv .3) in (
+    let h = responds-as _ _ (rw ((c .before .before .before .before .before .before .before .enum-told2) .given .1) at ((c .before .before .before .before .before .before .before .before .before .look-at) .ensures)) _ ((c .before .before .before .before .before .before .act) .result) ((c .before .before .before .before .before .before .act) .ensures) in (
       moves .1,
       omega (arith, w .within, kept),
       kept ∙ l .inv .2,
-      l .inv .3,
-      progress-line _ _ _ _ _ _ (l .inv .4) (g .0 .0) (g .0 .1 .0) told (plainly (l .state) Idle) rests w ((c .before .before .before .before .before .before .before .no-line) .result) ((c .before .before .before .before .before .before .before .no-line) .ensures),
+      trusted-next _ _ _ (l .inv .3) _ ((c .before .before .before .before .before .before .act) .result) h,
+      progress-line _ _ _ _ _ _ (l .inv .4) (g .0 .0) (g .0 .1 .0) told ((c .before .before .before .before .before .before .act) .result) h w ((c .before .before .before .before .before .before .before .before .before .before .no-line) .result) ((c .before .before .before .before .before .before .before .before .before .before .no-line) .ensures),
     )
 
-respond-requires : tie.Need-respond-requires Inv-loop μ-loop
-respond-requires c κs = (c .before .before .before .before .before .before .before .before .before .loop) .inv .3
+plain-result-requires : tie.Need-plain-result-requires Inv-loop μ-loop
+plain-result-requires c κs = search needs
 
 print-result-requires-2 : tie.Need-print-result-requires-2 Inv-loop μ-loop
 print-result-requires-2 c κs = search needs
@@ -114,20 +124,24 @@ loop-again-2 c =
     let g = (c .before .before .before .before .before .before .before .before .before .before .before .call) .given in
     let told = sym (ap shown (g .1)) ∙ (c .before .before .before .before .before .before .before .before .before .before .before .before .before .next-line) .ensures in
     let moves = line-moves _ (l .read) (l .held) (g .0 .0) (g .0 .1 .0) told in
-    let w = (c .before .before .print-result2) .ensures .line (omega arith) in
+    let stays = rw ((c .before .before .before .before .before .before .answer) .given .1) at ((c .before .before .before .before .before .before .before .before .look-at) .ensures) in
+    let w = rw ((c .before .before .before .before .plain-result) .ensures) at ((c .before .before .print-result2) .ensures .line (omega arith)) in
     let kept = (c .before .before .print-result2) .kept .0 in (
       moves .1,
       omega (arith, w .within, kept),
       kept ∙ l .inv .2,
-      trusted-next _ _ _ (l .inv .3) _ ((c .before .before .before .before .before .before .respond) .result) ((c .before .before .before .before .before .before .respond) .ensures),
-      progress-line _ _ _ _ _ _ (l .inv .4) (g .0 .0) (g .0 .1 .0) told ((c .before .before .before .before .before .before .respond) .result) ((c .before .before .before .before .before .before .respond) .ensures) w ((c .before .before .before .before .before .before .before .before .before .no-line) .result) ((c .before .before .before .before .before .before .before .before .before .no-line) .ensures),
+      l .inv .3,
+      progress-line _ _ _ _ _ _ (l .inv .4) (g .0 .0) (g .0 .1 .0) told (plainly (l .state) ((c .before .before .before .before .before .before .answer) .given .0 .0)) (stays _ (l .inv .3)) w ((c .before .before .before .before .before .before .before .before .before .no-line) .result) ((c .before .before .before .before .before .before .before .before .before .no-line) .ensures),
     )
+
+stopped-requires-3 : tie.Need-stopped-requires-3 Inv-loop μ-loop
+stopped-requires-3 c κs = search needs
 
 same-length-3 : tie.Need-same-length-3 Inv-loop μ-loop
 same-length-3 c = search needs
 
 returns-3 : tie.Need-returns-3 Inv-loop μ-loop
-returns-3 c = record { progress = (c .before .loop) .inv .4; within = (c .before .loop) .inv .0; room = (c .before .loop) .inv .1; whole = λ h. absurd (omega arith) }
+returns-3 c = rw ((c .stopped3) .ensures) (record { progress = (c .before .before .loop) .inv .4; within = (c .before .before .loop) .inv .0; room = (c .before .before .loop) .inv .1; whole = λ h. absurd (omega arith) })
 
 pub run-lines-spec : {M : Type 1} → statement M
 run-lines-spec =
@@ -137,23 +151,28 @@ run-lines-spec =
     μ-loop
     loop-holds
     sub-if1
+    stopped-requires
     same-length
     returns
     next-line-requires
     enum-known-call
     enum-told
     carried-requires
+    stopped-requires-2
     same-length-2
     returns-2
     no-line-requires
-    is-idle-requires
-    plain-result-requires
+    look-at-requires
+    enum-known-answer
+    enum-told-2
+    act-requires
     print-result-requires
     loop-less
     loop-again
-    respond-requires
+    plain-result-requires
     print-result-requires-2
     loop-less-2
     loop-again-2
+    stopped-requires-3
     same-length-3
     returns-3)
