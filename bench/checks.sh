@@ -10,9 +10,11 @@ cd "$(dirname "$0")/.."
 table=$(mktemp)
 trap 'rm -f "$table"' EXIT
 {
-    echo "| Crate | Seconds |"
-    echo "|---|---:|"
-    # shellcheck disable=SC2016 # backquotes of Markdown
-    RT_JOBS=1 rt prove | sed -n 's/^\([a-z_]*\) proved (\([0-9]*\) s)$/| `\1` | \2 |/p'
+    echo "| Crate | Seconds | Must-fail edits |"
+    echo "|---|---:|---:|"
+    RT_JOBS=1 rt prove | sed -n 's/^rt: \([a-z_]*\) proved (\([0-9]*\) s)$/\1 \2/p' | while read -r crate seconds; do
+        edits=$(find "crates/$crate" -path '*/must-fail/*.edit' | wc -l)
+        echo "| \`$crate\` | $seconds | $edits |"
+    done
 } | tee "$table"
 [ "${1:-}" != --write ] || between checks "$table"
