@@ -8,7 +8,7 @@ use lib.Dec.{leb, eqb}
 use borrow.Author.Tests.{le-leb, lt-leb, leb-true, eqb-true}
 use Rattle.lists.proofs.BoolLaws.{and-parts, both-ways}
 use Rattle.library.specs.Layout.{libraryOf}
-use Rattle.library.specs.Refusal.{refusalOf}
+use Rattle.accepted.specs.Refusal.{refusalOf}
 use Rattle.model.specs.State.{Call}
 use Rattle.model.specs.Calls.{act, callBy}
 use Rattle.state.specs.declared.State.{State}

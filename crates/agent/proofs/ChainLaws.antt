@@ -9,7 +9,7 @@ use borrow.Author.Tests.{le-leb, eq-eqb}
 use Rattle.lists.specs.Counts.{Every}
 use Rattle.lists.proofs.BoolLaws.{and-both}
 use Rattle.library.specs.Layout.{libraryOf, beliefsOf}
-use Rattle.library.specs.Refusal.{refusalOf}
+use Rattle.accepted.specs.Refusal.{refusalOf}
 use Rattle.model.specs.State.{AgentState, Reply}
 use Rattle.model.specs.Calls.{callBy, call, loaded}
 use Rattle.model.specs.WellFormed.{isWellFormed}

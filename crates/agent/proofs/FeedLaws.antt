@@ -9,7 +9,7 @@ use lib.ListN.{length}
 use borrow.Author.Tests.{eq-eqb}
 use Rattle.lists.proofs.BoolLaws.{both-ways, and-parts, and-both}
 use Rattle.library.specs.Layout.{libraryOf}
-use Rattle.library.specs.Refusal.{refusalOf}
+use Rattle.accepted.specs.Refusal.{refusalOf}
 use Rattle.model.specs.declared.Answer.the-variants.{Refused}
 use Rattle.model.specs.State.{AgentState, Call, Result, Reply, viewResult}
 use Rattle.model.specs.Calls.{isRefusal, act, callBy, call}

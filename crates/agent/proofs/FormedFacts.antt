@@ -27,10 +27,10 @@ use Rattle.model.specs.Changes.{changeOf, effective}
 use Rattle.library.specs.declared.Branch.{Branch}
 use Rattle.library.specs.Plan.{Plan, noPlan}
 use Rattle.library.specs.Layout.{planCount, libraryOf, planOf}
-use Rattle.library.specs.Refusal.{refusalOf}
+use Rattle.accepted.specs.Refusal.{refusalOf}
 use Rattle.library.proofs.PartLaws.{length-plans, plan-is}
-use Rattle.library.proofs.RuleFacts.{state-branches}
-use Rattle.library.proofs.Accepted.{keeps}
+use Rattle.accepted.proofs.RuleFacts.{state-branches}
+use Rattle.accepted.proofs.Accepted.{keeps}
 use Rattle.model.specs.declared.Event.{Event}
 use Rattle.model.specs.State.{Intention, report, Reply, noEvent}
 use Rattle.model.specs.Live.{isGoal, live, serves, isPending, isReady, isPoster}

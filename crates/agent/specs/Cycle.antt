@@ -4,7 +4,7 @@ use mathlib.Core.Path.{_≡_}
 use mathlib.Core.Bool.{true}
 use mathlib.Core.List.{List}
 use Rattle.library.specs.Layout.{libraryOf}
-use Rattle.library.specs.Refusal.{refusalOf}
+use Rattle.accepted.specs.Refusal.{refusalOf}
 use Rattle.model.specs.declared.Answer.the-variants.{Idle}
 use Rattle.model.specs.Cycle.{cycled}
 use Rattle.model.specs.WellFormed.{isWellFormed}

@@ -8,7 +8,7 @@ use Rattle.literal.specs.declared.Literal.{Literal}
 use Rattle.belief.specs.Beliefs.{view}
 use Rattle.library.specs.declared.Branch.{Branch}
 use Rattle.library.specs.Layout.{planCount, libraryOf}
-use Rattle.library.specs.Refusal.{Accepted}
+use Rattle.accepted.specs.Refusal.{Accepted}
 use Rattle.model.specs.declared.Answer.{Answer}
 use Rattle.model.specs.declared.Event.{Event}
 use Rattle.model.specs.declared.Origin.{Origin}

@@ -58,7 +58,7 @@ pub fn is_state_formed(library: &[u8], s: State) -> bool
 pub fn is_formed(library: &[u8], s: State) -> bool
     ensures { λ r. ⌜ r ≡ isFormed (now (library .entry)) s ⌝ }
 {
-    if library::refusal(library) != 0 {
+    if accepted::refusal(library) != 0 {
         return false;
     }
     is_state_formed(library, s)

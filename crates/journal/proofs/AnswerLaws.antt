@@ -10,7 +10,7 @@ use lib.ListN.{length, length-map}
 use Rattle.lists.specs.Counts.{bit, count, each}
 use Rattle.lists.proofs.CountLaws.{total-append}
 use Rattle.lists.proofs.TestCounts.{any-none}
-use Rattle.library.specs.Refusal.{refusalOf}
+use Rattle.accepted.specs.Refusal.{refusalOf}
 use Rattle.model.specs.State.{Call, Result, viewResult}
 use Rattle.model.specs.Lines.{lineOf}
 use Rattle.printing.specs.LineText.{newline, resultText, IsLine}

@@ -4,8 +4,8 @@ use Prim.Native.Nat.{ℕ}
 use Prim.Native.String as Text
 use Prim.Native.String.{String}
 use mathlib.Core.List.{List, [], _∷_}
-use Rattle.library.specs.Refusal.{refusalOf}
-use Rattle.library.specs.Cases.{journalLibrary}
+use Rattle.accepted.specs.Refusal.{refusalOf}
+use Rattle.accepted.specs.Cases.{journalLibrary}
 use Rattle.printing.specs.Cases.{bytes}
 use Rattle.journal.specs.Output.{printedFor}
 

@@ -6,7 +6,7 @@ use mathlib.Core.List.{List, [], _∷_, _++_, map}
 use lib.Dec.{eqb}
 use Rattle.library.specs.Plan.{Library}
 use Rattle.library.specs.Layout.{libraryOf}
-use Rattle.library.specs.Refusal.{refusalOf}
+use Rattle.accepted.specs.Refusal.{refusalOf}
 use Rattle.model.specs.declared.Answer.the-variants.{Refused}
 use Rattle.model.specs.State.{AgentState, Call, Reply}
 use Rattle.model.specs.Calls.{loaded}

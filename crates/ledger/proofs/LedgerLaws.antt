@@ -16,7 +16,7 @@ use Rattle.belief.specs.Beliefs.{view, areBeliefs, change, replay}
 use Rattle.belief.specs.Table.{add, remove}
 use Rattle.belief.proofs.BeliefLaws.{table-parts, table-both, replay-join}
 use Rattle.library.specs.Layout.{libraryOf, beliefsOf}
-use Rattle.library.specs.Refusal.{refusalOf}
+use Rattle.accepted.specs.Refusal.{refusalOf}
 use Rattle.model.specs.State.{AgentState, Call, Reply, viewResult}
 use Rattle.model.specs.Changes.{alters, effective, areEffective}
 use Rattle.model.specs.Calls.{callBy, call}

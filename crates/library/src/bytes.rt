@@ -8,14 +8,14 @@ ghost use Rattle.library.specs.Plan.{noLiteral, noAction, noBranch};
 ghost use Rattle.library.specs.Bytes.{u16At, literalAt, actionAt, branchAt};
 
 // How many bytes a literal, an action and a branch have.
-pub(crate) const LITERAL_BYTES: usize = 8;
+pub const LITERAL_BYTES: usize = 8;
 
-pub(crate) const ACTION_BYTES: usize = 10;
+pub const ACTION_BYTES: usize = 10;
 
-pub(crate) const BRANCH_BYTES: usize = 12;
+pub const BRANCH_BYTES: usize = 12;
 
 // Where a branch's next state stands in it.
-pub(crate) const NEXT_STATE: usize = 10;
+pub const NEXT_STATE: usize = 10;
 
 // ---- What stands where nothing is
 

@@ -10,9 +10,9 @@ ghost use Rattle.library.specs.Plan.{noLiteral};
 ghost use Rattle.library.specs.Layout.{planCount, beliefCount, beliefsOf, entryOff, entryLength};
 
 // How many bytes the two numbers have, and an entry.
-pub(crate) const HEADER_BYTES: usize = 4;
+pub const HEADER_BYTES: usize = 4;
 
-pub(crate) const ENTRY_BYTES: usize = 4;
+pub const ENTRY_BYTES: usize = 4;
 
 pub fn plan_count(library: &[u8]) -> u16
     ensures { λ r. ⌜ r ≡ planCount (now (library .entry)) ⌝ }

@@ -19,15 +19,15 @@ ghost use lib.ListN.{length, getD};
 ghost use Rattle.library.specs.Plan.{noAction, noBranch};
 ghost use Rattle.library.specs.Bytes.{rowsEnd};
 ghost use Rattle.library.specs.Layout.{situationEnd, actionsAt, actionsEnd, statesAt, statesEnd, planOf, entryOff};
-ghost use Rattle.library.specs.Layout.{contextOff, maintenanceOff, successOff, failureOff, statesOff};
+ghost use Rattle.library.specs.Layout.{contextOff, maintenanceOff, successOff, failureOff, statesOff, planEnd};
 
 // How many bytes a plan's trigger has: its kind and its literal.
-pub(crate) const TRIGGER_BYTES: usize = 10;
+const TRIGGER_BYTES: usize = 10;
 
 // ---- Past the parts of a plan
 
 // The offset past n rows of items of `width` bytes.
-pub(crate) fn rows_end(bytes: &[u8], from: usize, n: usize, width: usize) -> usize
+fn rows_end(bytes: &[u8], from: usize, n: usize, width: usize) -> usize
     requires { ⌜ (from < 2 ^ 60) × ((n < 2 ^ 16) × (width ≤ 12)) ⌝ }
     ensures value { λ r. ⌜ r ≡ rowsEnd (now (bytes .entry)) width n from ⌝ }
     ensures small { λ r. ⌜ r ≤ from + 786422 * n ⌝ }
@@ -42,7 +42,7 @@ pub(crate) fn rows_end(bytes: &[u8], from: usize, n: usize, width: usize) -> usi
     at
 }
 
-pub(crate) fn situation_end(bytes: &[u8], at: usize) -> usize
+fn situation_end(bytes: &[u8], at: usize) -> usize
     requires { ⌜ at < 2 ^ 50 ⌝ }
     ensures value { λ r. ⌜ r ≡ situationEnd (now (bytes .entry)) at ⌝ }
     ensures small { λ r. ⌜ r < at + 2 ^ 36 ⌝ }
@@ -51,7 +51,7 @@ pub(crate) fn situation_end(bytes: &[u8], at: usize) -> usize
     rows_end(bytes, at + 2, alternatives, LITERAL_BYTES)
 }
 
-pub(crate) fn actions_end(bytes: &[u8], at: usize) -> usize
+fn actions_end(bytes: &[u8], at: usize) -> usize
     requires { ⌜ at < 2 ^ 50 ⌝ }
     ensures value { λ r. ⌜ r ≡ actionsEnd (now (bytes .entry)) at ⌝ }
     ensures small { λ r. ⌜ r < at + 2 ^ 36 ⌝ }
@@ -60,7 +60,7 @@ pub(crate) fn actions_end(bytes: &[u8], at: usize) -> usize
     at + 2 + ACTION_BYTES * count
 }
 
-pub(crate) fn states_end(bytes: &[u8], at: usize) -> usize
+fn states_end(bytes: &[u8], at: usize) -> usize
     requires { ⌜ at < 2 ^ 50 ⌝ }
     ensures { λ r. ⌜ r ≡ statesEnd (now (bytes .entry)) at ⌝ }
 {
@@ -104,7 +104,8 @@ pub fn maintenance_offset(library: &[u8], plan: usize) -> usize
 
 // ---- Success and failure lists
 
-fn success_offset(library: &[u8], plan: usize) -> usize
+// Where the plan's success list stands.
+pub fn success_offset(library: &[u8], plan: usize) -> usize
     ensures value { λ r. ⌜ r ≡ successOff (now (library .entry)) (entryOff (now (library .entry)) plan) ⌝ }
     ensures small { λ r. ⌜ r < 2 ^ 38 ⌝ }
 {
@@ -112,7 +113,8 @@ fn success_offset(library: &[u8], plan: usize) -> usize
     situation_end(library, maintenance)
 }
 
-fn failure_offset(library: &[u8], plan: usize) -> usize
+// Where the plan's failure list stands.
+pub fn failure_offset(library: &[u8], plan: usize) -> usize
     ensures value { λ r. ⌜ r ≡ failureOff (now (library .entry)) (entryOff (now (library .entry)) plan) ⌝ }
     ensures small { λ r. ⌜ r < 2 ^ 39 ⌝ }
 {
@@ -162,12 +164,21 @@ pub fn failure_action(library: &[u8], plan: usize, place: usize) -> Action
 
 // ---- States and branches
 
-fn states_offset(library: &[u8], plan: usize) -> usize
+// Where the plan's states stand.
+pub fn states_offset(library: &[u8], plan: usize) -> usize
     ensures value { λ r. ⌜ r ≡ statesOff (now (library .entry)) (entryOff (now (library .entry)) plan) ⌝ }
     ensures small { λ r. ⌜ r < 2 ^ 40 ⌝ }
 {
     let failure = failure_offset(library, plan);
     actions_end(library, failure)
+}
+
+// Where the plan ends, by its parts.
+pub fn plan_end(library: &[u8], plan: usize) -> usize
+    ensures { λ r. ⌜ r ≡ planEnd (now (library .entry)) (entryOff (now (library .entry)) plan) ⌝ }
+{
+    let states = states_offset(library, plan);
+    states_end(library, states)
 }
 
 // The number of branches of a state of the body at an offset.

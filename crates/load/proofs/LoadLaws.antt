@@ -13,8 +13,8 @@ use mathlib.Core.Bool.{true}
 use Rattle.lists.specs.Search.{all}
 use Rattle.belief.specs.Beliefs.{view}
 use Rattle.library.specs.Layout.{beliefsOf, libraryOf}
-use Rattle.library.specs.Refusal.{refusalOf}
-use Rattle.library.proofs.Size.{library-most}
+use Rattle.accepted.specs.Refusal.{refusalOf}
+use Rattle.accepted.proofs.Size.{library-most}
 use Rattle.state.specs.declared.State.{State}
 use Rattle.state.specs.View.{viewQueue, viewStacks, viewState, countsFit}
 use Rattle.load.specs.declared.Loaded.{Loaded}

@@ -140,7 +140,7 @@ fn refused(refusal: u16) -> Loaded
 pub fn load(library: &[u8]) -> Loaded
     ensures { λ r. ⌜ Loads (now (library .entry)) r ⌝ }
 {
-    let refusal = library::refusal(library);
+    let refusal = accepted::refusal(library);
     if refusal != 0 {
         return refused(refusal);
     }

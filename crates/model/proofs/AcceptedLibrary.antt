@@ -15,10 +15,10 @@ use Rattle.belief.specs.Beliefs.{mostBeliefs, areSound, areBeliefs}
 use Rattle.library.specs.declared.Branch.{Branch}
 use Rattle.library.specs.Plan.{Plan, noPlan, noBranch}
 use Rattle.library.specs.Layout.{planCount, planOf, beliefsOf, libraryOf}
-use Rattle.library.specs.Refusal.{Accepted}
+use Rattle.accepted.specs.Refusal.{Accepted}
 use Rattle.library.proofs.PartLaws.{length-plans, plan-is}
-use Rattle.library.proofs.RuleFacts.{few-actions, some-state}
-use Rattle.library.proofs.Accepted.{few-beliefs, beliefs-ground, beliefs-distinct, keeps, branch-above, branch-below}
+use Rattle.accepted.proofs.RuleFacts.{few-actions, some-state}
+use Rattle.accepted.proofs.Accepted.{few-beliefs, beliefs-ground, beliefs-distinct, keeps, branch-above, branch-below}
 use Rattle.model.specs.State.{mostChanges, Call}
 use Rattle.model.specs.WellFormed.{isWellFormed}
 use Rattle.model.specs.Formed.{Acceptable}

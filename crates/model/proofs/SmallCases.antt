@@ -10,10 +10,10 @@ use Rattle.literal.specs.Match.{matchTerm, matchLiteral}
 use Rattle.belief.specs.Beliefs.{holds, areBeliefs, plus, minus, replay}
 use Rattle.library.specs.Bytes
 use Rattle.library.specs.Layout
-use Rattle.library.specs.Refusal
-use Rattle.library.specs.Refusal.{contentsFit, packedFrom, isPacked, plansFit}
-use Rattle.library.specs.Rules.{beliefsOk}
-use Rattle.library.specs.Cases.{journalLibrary}
+use Rattle.accepted.specs.Refusal
+use Rattle.accepted.specs.Refusal.{contentsFit, packedFrom, isPacked, plansFit}
+use Rattle.accepted.specs.Rules.{beliefsOk}
+use Rattle.accepted.specs.Cases.{journalLibrary}
 use Rattle.situation.specs.FailedSet.{has, insert, sizeOf}
 use Rattle.situation.specs.Solutions.{overBeliefs, solve, solutions, firstOf, ask}
 use Rattle.situation.specs.Applicable.{triggered, planSolutions, applicableFrom, choose}

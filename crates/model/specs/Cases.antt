@@ -8,8 +8,8 @@ use Rattle.literal.specs.Environment.{emptyEnv}
 use Rattle.belief.specs.declared.Change.{Change}
 use Rattle.library.specs.Plan.{Situation}
 use Rattle.library.specs.Layout.{libraryOf}
-use Rattle.library.specs.Refusal.{refusalOf}
-use Rattle.library.specs.Cases.{journalLibrary}
+use Rattle.accepted.specs.Refusal.{refusalOf}
+use Rattle.accepted.specs.Cases.{journalLibrary}
 use Rattle.situation.specs.Solutions.{solutions}
 use Rattle.situation.specs.Cases as SituationCases
 use Rattle.model.specs.State.{Call, report, cycle, outcome}

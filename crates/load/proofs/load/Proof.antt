@@ -1,8 +1,8 @@
 -- `load::load` meets its contract: refused by the number, or the library's copy with its beliefs alone.
 use borrow.Author.Needs.{needs}
 use mathlib.Core.Path.{refl, sym, _∙_}
-use Rattle.library.proofs.Size.{library-most}
-use Rattle.library.proofs.Accepted.{few-beliefs}
+use Rattle.accepted.proofs.Size.{library-most}
+use Rattle.accepted.proofs.Accepted.{few-beliefs}
 use Rattle.load.proofs.LoadLaws.{loads-refused, loads-accepted}
 use Rattle.load.proofs.load.Statement.{statement}
 use Rattle.load.proofs.load.Tie as tie

@@ -6,8 +6,8 @@ use mathlib.Core.Path.{_≡_, refl}
 use Rattle.belief.specs.Beliefs.{view}
 use Rattle.library.specs.Layout.{planCount, libraryOf}
 use Rattle.library.specs.Layout as layout
-use Rattle.library.proofs.RuleFacts.{few-actions}
-use Rattle.library.proofs.Accepted.{few-plans, keeps}
+use Rattle.accepted.proofs.RuleFacts.{few-actions}
+use Rattle.accepted.proofs.Accepted.{few-plans, keeps}
 use Rattle.model.specs.Changes.{effects}
 use Rattle.model.specs.declared.Answer.the-variants.{Failed}
 use Rattle.model.specs.Instance.{planOf}

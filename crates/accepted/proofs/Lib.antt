@@ -1,0 +1,11 @@
+pub mod RuleLaws
+pub mod StageLaws
+pub mod PlanLaws
+pub mod RuleFacts
+pub mod Accepted
+pub mod Size
+pub mod ReadsLaws
+pub mod ParserLaws
+pub mod Cases
+pub mod Shift
+pub mod Largest

@@ -1,0 +1,53 @@
+-- `accepted::stages::beliefs_ok` meets its contract: ground first, then all different.
+use mathlib.Core.Path.{sym, _∙_}
+use borrow.Author.Tests.{not-true, not-false}
+use borrow.Author.Needs.{needs}
+use denote.Ref.{now}
+use Rattle.accepted.proofs.StageLaws.{ground-fails, distinct-decides}
+use Rattle.accepted.proofs.stages.beliefs_ok.Statement.{statement}
+use Rattle.accepted.proofs.stages.beliefs_ok.Tie as tie
+
+plan-count-requires : tie.Need-plan-count-requires
+plan-count-requires c κs = search needs
+
+cast-plans : tie.Need-cast-plans
+cast-plans c = search needs
+
+mul-from : tie.Need-mul-from
+mul-from c = search needs
+
+add-from : tie.Need-add-from
+add-from c = search needs
+
+belief-count-requires : tie.Need-belief-count-requires
+belief-count-requires c κs = search needs
+
+cast-beliefs : tie.Need-cast-beliefs
+cast-beliefs c = search needs
+
+all-ground-requires : tie.Need-all-ground-requires
+all-ground-requires c κs = search needs
+
+returns : tie.Need-returns
+returns c = ground-fails (now ((c .before .before .before .before .before .args) .library)) _ _ ((c .before .before .before .plan-count) .ensures) ((c .before .before .belief-count) .ensures) (sym ((c .before .all-ground) .ensures) ∙ not-true _ ((c .if1) .taken))
+
+all-distinct-requires : tie.Need-all-distinct-requires
+all-distinct-requires c κs = search needs
+
+returns-2 : tie.Need-returns-2
+returns-2 c = (c .all-distinct) .ensures ∙ distinct-decides (now ((c .before .before .before .before .before .before .args) .library)) _ _ ((c .before .before .before .before .plan-count) .ensures) ((c .before .before .before .belief-count) .ensures) (sym ((c .before .before .all-ground) .ensures) ∙ not-false _ ((c .before .if1) .left))
+
+pub beliefs-ok-spec : {M : Type 1} → statement M
+beliefs-ok-spec =
+    tie.close
+    (tie.spec
+    plan-count-requires
+    cast-plans
+    mul-from
+    add-from
+    belief-count-requires
+    cast-beliefs
+    all-ground-requires
+    returns
+    all-distinct-requires
+    returns-2)

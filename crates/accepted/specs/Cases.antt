@@ -1,0 +1,108 @@
+-- The library of 58 bytes (document 01, "Journal"), byte by byte, the plan that it holds, and a library for each refusal.
+use Prim.Native.Nat.{ℕ}
+use mathlib.Core.List.{List, [], _∷_, _++_}
+use lib.ListN.{set, take}
+use Rattle.literal.specs.declared.Literal.{Literal}
+use Rattle.library.specs.Plan.{Plan}
+
+-- one plan, no beliefs; plan 0 at 8, so many bytes long
+abbrev pub journalContents : ℕ → List ℕ
+journalContents size = 1 ∷ 0 ∷ 0 ∷ 0 ∷ 8 ∷ 0 ∷ size ∷ 0 ∷ []
+
+-- kind 0, +1 V0 0 0
+abbrev pub journalTrigger : List ℕ
+journalTrigger = 0 ∷ 0 ∷ 1 ∷ 0 ∷ 248 ∷ 255 ∷ 0 ∷ 0 ∷ 0 ∷ 0 ∷ []
+
+-- one empty alternative
+abbrev pub journalSituation : List ℕ
+journalSituation = 1 ∷ 0 ∷ 0 ∷ 0 ∷ []
+
+-- one action: remove +1 V0 0 0
+abbrev pub journalSuccess : List ℕ
+journalSuccess = 1 ∷ 0 ∷ 1 ∷ 0 ∷ 1 ∷ 0 ∷ 248 ∷ 255 ∷ 0 ∷ 0 ∷ 0 ∷ 0 ∷ []
+
+-- no actions
+abbrev pub journalFailure : List ℕ
+journalFailure = 0 ∷ 0 ∷ []
+
+-- kind 2, +9 V0 0 0, next 1
+abbrev pub journalBranch : List ℕ
+journalBranch = 2 ∷ 0 ∷ 9 ∷ 0 ∷ 248 ∷ 255 ∷ 0 ∷ 0 ∷ 0 ∷ 0 ∷ 1 ∷ 0 ∷ []
+
+-- two states: state 0 has that branch, state 1 has none
+abbrev pub journalStates : List ℕ
+journalStates = 2 ∷ 0 ∷ 1 ∷ 0 ∷ (journalBranch ++ (0 ∷ 0 ∷ []))
+
+-- the plan with some states, in a library
+abbrev pub journalWith : ℕ → List ℕ → List ℕ
+journalWith size states =
+    journalContents size
+    ++ (journalTrigger ++ (journalSituation ++ (journalSituation ++ (journalSuccess ++ (journalFailure ++ states)))))
+
+unfoldable pub journalLibrary : List ℕ
+journalLibrary = journalWith 50 journalStates
+
+-- a positive literal on V0 alone
+abbrev pub onV0 : ℕ → Literal
+onV0 predicate = record { head = predicate; first = 65528; second = 0; third = 0 }
+
+abbrev pub journalPlan : Plan
+journalPlan =
+    record {
+      kind = 0;
+      trigger = onV0 1;
+      context = [] ∷ [];
+      maintenance = [] ∷ [];
+      success = record { kind = 1; literal = onV0 1 } ∷ [];
+      failure = [];
+      states = (record { kind = 2; literal = onV0 9; next = 1 } ∷ []) ∷ [] ∷ [];
+    }
+
+-- ---- A library for each refusal (document 01, "Who may cause which refusal"; the rows of zero bytes alone are small case 8)
+
+pub record RefusalCase : Type 0 where
+  pub bytes : List ℕ
+  pub refused : ℕ
+
+abbrev pub refusedWith : ℕ → List ℕ → RefusalCase
+refusedWith refused bytes = record { bytes = bytes; refused = refused }
+
+-- the library of 58 bytes with another byte at an offset
+abbrev pub changed : ℕ → ℕ → List ℕ
+changed at byte = set journalLibrary at byte
+
+unfoldable pub refusalCases : List RefusalCase
+refusalCases =
+    refusedWith 0 (0 ∷ 0 ∷ 0 ∷ 0 ∷ [])
+    -- 1: three bytes; 33 plans; 65 beliefs; an entry past the end; a belief past the end
+    ∷ refusedWith 1 (0 ∷ 0 ∷ 0 ∷ [])
+    ∷ refusedWith 1 (33 ∷ 0 ∷ 0 ∷ 0 ∷ [])
+    ∷ refusedWith 1 (0 ∷ 0 ∷ 65 ∷ 0 ∷ [])
+    ∷ refusedWith 1 (1 ∷ 0 ∷ 0 ∷ 0 ∷ [])
+    ∷ refusedWith 1 (0 ∷ 0 ∷ 1 ∷ 0 ∷ [])
+    -- 2: a byte too many; an offset, a length and an end that packing does not give
+    ∷ refusedWith 2 (0 ∷ 0 ∷ 0 ∷ 0 ∷ 0 ∷ [])
+    ∷ refusedWith 2 (changed 4 9)
+    ∷ refusedWith 2 (changed 6 49)
+    ∷ refusedWith 2 (take 57 journalLibrary)
+    -- 3: a belief with V0; a belief twice
+    ∷ refusedWith 3 (0 ∷ 0 ∷ 1 ∷ 0 ∷ 1 ∷ 0 ∷ 248 ∷ 255 ∷ 0 ∷ 0 ∷ 0 ∷ 0 ∷ [])
+    ∷ refusedWith 3
+    (0 ∷ 0 ∷ 2 ∷ 0 ∷ 1 ∷ 0 ∷ 5 ∷ 0 ∷ 0 ∷ 0 ∷ 0 ∷ 0 ∷ 1 ∷ 0 ∷ 5 ∷ 0 ∷ 0 ∷ 0 ∷ 0 ∷ 0 ∷ [])
+    -- 4: a plan of no bytes; trigger kind 5; five alternatives; action kind 2; no states; five branches; branch kind 5;
+    -- a negative external action; next states 0 and 2 of two; a plan of 51 bytes that ends after 50
+    ∷ refusedWith 4 (1 ∷ 0 ∷ 0 ∷ 0 ∷ 8 ∷ 0 ∷ 0 ∷ 0 ∷ [])
+    ∷ refusedWith 4 (changed 8 5)
+    ∷ refusedWith 4 (changed 18 5)
+    ∷ refusedWith 4 (changed 28 2)
+    ∷ refusedWith 4 (changed 40 0)
+    ∷ refusedWith 4 (changed 42 5)
+    ∷ refusedWith 4 (changed 44 5)
+    ∷ refusedWith 4 (changed 47 128)
+    ∷ refusedWith 4 (changed 54 0)
+    ∷ refusedWith 4 (changed 54 2)
+    ∷ refusedWith 4 (changed 6 51 ++ (0 ∷ []))
+    -- 4, the tree: of two states no branch leads to state 1; two do
+    ∷ refusedWith 4 (journalWith 38 (2 ∷ 0 ∷ 0 ∷ 0 ∷ 0 ∷ 0 ∷ []))
+    ∷ refusedWith 4 (journalWith 62 (2 ∷ 0 ∷ 2 ∷ 0 ∷ (journalBranch ++ (journalBranch ++ (0 ∷ 0 ∷ [])))))
+    ∷ []

@@ -1,0 +1,4 @@
+pub mod Rules
+pub mod Refusal
+pub mod Parser
+pub mod Cases
