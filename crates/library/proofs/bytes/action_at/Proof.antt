@@ -22,7 +22,10 @@ literal-at-requires : tie.Need-literal-at-requires
 literal-at-requires c κs = search needs
 
 returns-2 : tie.Need-returns-2
-returns-2 c = cc
+returns-2 c =
+    let kind = (c .before .u16-at) .ensures in
+    let literal = (c .literal-at) .ensures in
+    λ i. record { kind = kind i; literal = literal i }
 
 pub action-at-spec : {M : Type 1} → statement M
 action-at-spec =

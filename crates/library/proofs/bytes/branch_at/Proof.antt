@@ -28,7 +28,11 @@ u16-at-requires-2 : tie.Need-u16-at-requires-2
 u16-at-requires-2 c κs = search needs
 
 returns-2 : tie.Need-returns-2
-returns-2 c = cc
+returns-2 c =
+    let kind = (c .before .before .u16-at) .ensures in
+    let literal = (c .before .literal-at) .ensures in
+    let next = (c .u16-at2) .ensures in
+    λ i. record { kind = kind i; literal = literal i; next = next i }
 
 pub branch-at-spec : {M : Type 1} → statement M
 branch-at-spec =

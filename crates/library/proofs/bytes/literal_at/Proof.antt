@@ -34,7 +34,12 @@ u16-at-requires-4 : tie.Need-u16-at-requires-4
 u16-at-requires-4 c κs = search needs
 
 returns-2 : tie.Need-returns-2
-returns-2 c = cc
+returns-2 c =
+    let head = (c .before .before .before .u16-at) .ensures in
+    let first = (c .before .before .u16-at2) .ensures in
+    let second = (c .before .u16-at3) .ensures in
+    let third = (c .u16-at4) .ensures in
+    λ i. record { head = head i; first = first i; second = second i; third = third i }
 
 pub literal-at-spec : {M : Type 1} → statement M
 literal-at-spec =

@@ -7,7 +7,7 @@ no-literal-requires : tie.Need-no-literal-requires
 no-literal-requires c κs = search needs
 
 returns : tie.Need-returns
-returns c = cc
+returns c = let literal = (c .no-literal) .ensures in λ i. record { kind = 0; literal = literal i; next = 0 }
 
 pub no-branch-spec : {M : Type 1} → statement M
 no-branch-spec = tie.close (tie.spec no-literal-requires returns)

@@ -1,5 +1,6 @@
 -- `library::bytes::u16_at` meets its contract: the two bytes are the definition's; past the end both are 0.
-use mathlib.Core.Path.{sym}
+use Prim.Native.Nat.{ℕ, _+_, _*_}
+use mathlib.Core.Path.{sym, ap₂}
 use borrow.Author.Needs.{needs}
 use denote.Ref.{now}
 use Rattle.library.specs.Bytes.{u16At}
@@ -33,7 +34,7 @@ add-result c = search needs
 
 returns-2 : tie.Need-returns-2
 unfolding u16At
-returns-2 c = cc
+returns-2 c = ap₂ (λ (low high : ℕ). low + 256 * high) ((c .before .byte-at) .ensures) ((c .byte-at2) .ensures)
 
 pub u16-at-spec : {M : Type 1} → statement M
 u16-at-spec =
