@@ -1,6 +1,6 @@
 -- Laws of sums and counts over lists, by induction on the list.
 use Prim.Native.Nat.{ℕ, _+_, _≤_}
-use mathlib.Core.Path.{_≡_, refl, sym, ap}
+use mathlib.Core.Path.{_≡_, refl, sym, ap, _∙_}
 use mathlib.Core.List.{List, [], _∷_, _++_, map}
 use mathlib.Core.Bool.{Bool, true, false, _&&_, not}
 use native.Mathlib.Omega.{arith}
@@ -51,6 +51,10 @@ module _ {A : Type 0} where
   total-le f g [] h = omega arith
   total-le f g (x ∷ xs) h = omega (arith, h x, total-le f g xs h)
 
+  pub total-add : (f g : A → ℕ) (xs : List A) → total (λ x. f x + g x) xs ≡ total f xs + total g xs
+  total-add f g [] = refl
+  total-add f g (x ∷ xs) = omega (arith, total-add f g xs)
+
   pub total-zero : (xs : List A) → total (λ x. 0) xs ≡ 0
   total-zero [] = refl
   total-zero (x ∷ xs) = omega (arith, total-zero xs)
@@ -76,3 +80,8 @@ module _ {A B : Type 0} where
   pub total-map : (f : B → ℕ) (g : A → B) (xs : List A) → total f (map g xs) ≡ total (λ x. f (g x)) xs
   total-map f g [] = refl
   total-map f g (x ∷ xs) = ap (λ n. f (g x) + n) (total-map f g xs)
+
+  -- a table summed by rows or by columns
+  pub total-swap : (f : A → B → ℕ) (xs : List A) (ys : List B) → total (λ x. total (f x) ys) xs ≡ total (λ y. total (λ x. f x y) xs) ys
+  total-swap f [] ys = sym (total-zero ys)
+  total-swap f (x ∷ xs) ys = ap (λ n. total (f x) ys + n) (total-swap f xs ys) ∙ sym (total-add (f x) (λ y. total (λ x. f x y) xs) ys)

@@ -7,6 +7,7 @@ pub mod LinkedLaws
 pub mod LocalLaws
 pub mod FormedLaws
 pub mod QueueBound
+pub mod PendingLaws
 pub mod Step
 pub mod FormedKept
 pub mod EventWalk
