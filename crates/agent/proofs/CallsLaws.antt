@@ -2,24 +2,24 @@
 use Prim.Native.Nat.{ℕ, _<_, _≤_}
 use mathlib.Core.Path.{_≡_, refl, subst⁻¹}
 use mathlib.Core.Bool.{true, false}
+use mathlib.Core.Option.{some}
 use mathlib.Core.List.{List}
 use lib.ListN.{length, take}
 use lib.Dec.{leb, eqb}
 use borrow.Author.Tests.{le-leb, lt-leb, leb-true, eqb-true}
-use Rattle.lists.proofs.BoolLaws.{and-parts, both-ways}
-use Rattle.library.specs.Layout.{libraryOf}
+use Rattle.lists.proofs.BoolLaws.{and-parts}
 use Rattle.accepted.specs.Refusal.{refusalOf}
 use Rattle.model.specs.State.{Call}
-use Rattle.model.specs.Calls.{act, callBy}
 use Rattle.state.specs.declared.State.{State}
-use Rattle.state.specs.View.{viewState, countsFit}
+use Rattle.state.specs.View.{countsFit}
 use Rattle.formed.specs.Formed.{isStateFormed, isFormed}
 use Rattle.agent.specs.declared.Acted.{Acted}
 use Rattle.load.specs.declared.Agent.{Agent}
 use Rattle.agent.specs.declared.Replied.{Replied}
-use Rattle.agent.specs.Gives.{Gives}
 use Rattle.agent.specs.Cycle.{WellFormedState}
-use Rattle.agent.specs.Calls.{isWellFormedWith, refusedTen, withState, CallsOn, Calls}
+use Rattle.load.specs.Load.{bytesOf}
+use Rattle.agent.specs.Calls.{isWellFormedWith, isWellFormedAgent, withState, Calls}
+use Rattle.agent.specs.Feed.{respondBy, Responds}
 
 module _ (library : List ℕ) (size : ℕ) (s : State) where
   -- ---- The test
@@ -46,20 +46,10 @@ module _ (library : List ℕ) (size : ℕ) (s : State) where
         let q = and-parts (countsFit s) _ (p .1) in
         record { accepted = eqb-true _ 0 (p .0); fit = q .0; formed = q .1 }
 
-  -- ---- The calls
-
-  module _ (c : Call) (r : Acted) where
-    pub calls-refused : isWellFormedWith library size s ≡ false → r ≡ refusedTen s → CallsOn library size s c r
-    unfolding callBy
-    calls-refused e z =
-        subst⁻¹ (CallsOn library size s c) z (record { means = rw e; refused = λ x. refl; fit = λ t. both-ways t e })
-
-    pub calls-acted : isWellFormedWith library size s ≡ true → Gives s (act (libraryOf (take size library)) (viewState s) c) r → CallsOn library size s c r
-    unfolding callBy
-    calls-acted e g = record { means = rw e (g .means); refused = g .refused; fit = λ t. g .fit }
-
 -- from the parts of an agent to the agent
-pub calls-agent : (a : Agent) (c : Call) (acted : Acted) → CallsOn (a .library) (a .length) (a .state) c acted → (r : Replied) → r ≡ withState a acted → Calls a c r
+pub calls-agent : (a : Agent) (c : Call) (acted : Acted) → Responds (bytesOf a) (isWellFormedAgent a) (a .state) (some c) acted
+    → (r : Replied) → r ≡ withState a acted → Calls a c r
+unfolding respondBy
 calls-agent a c acted h r z = subst⁻¹ (Calls a c) z (record {
   means = h .means;
   library = refl;

@@ -14,7 +14,6 @@ use Rattle.lists.proofs.BoolLaws.{by-cases, and-both}
 use Rattle.lists.proofs.AllLaws.{all-at, all-set}
 use Rattle.lists.proofs.TestLaws.{all-joined, all-removed}
 use Rattle.lists.proofs.GapLaws.{gap-take, gap-last}
-use Rattle.belief.specs.declared.Beliefs.{Beliefs}
 use Rattle.model.specs.declared.Event.{Event}
 use Rattle.model.specs.State.{mostStacks, mostQueued}
 use Rattle.state.specs.declared.Stack.{Stack}
@@ -23,7 +22,6 @@ use Rattle.state.specs.View.{queuedOf, stackedOf, countsFit}
 use Rattle.state.specs.Queue.{withQueue, enqueue, dequeue, putEvent}
 use Rattle.state.specs.Stacks.{withStacks, openLast, putAt, dropAt, turnLast}
 use Rattle.state.proofs.CountParts.{isShallow, Counts, counts-parts, counts-whole}
-use Rattle.agent.specs.View.{changedTo}
 
 one-shallow : (stack : Stack) → stack .depth ≤ 7 → all isShallow (stack ∷ []) ≡ true
 unfolding all
@@ -33,11 +31,7 @@ module _ (s : State) (h : countsFit s ≡ true) where
   counts : Counts s
   counts = counts-parts s h
 
-  -- ---- The beliefs and the queue
-
-  pub counts-table : (b : Beliefs) (taken : ℕ) → b .count ≤ 64 → countsFit (changedTo s b taken) ≡ true
-  counts-table b taken few =
-      counts-whole (changedTo s b taken) (record { beliefs = few; queued = counts .queued; stacked = counts .stacked; depths = counts .depths })
+  -- ---- The queue
 
   counts-queue : (queue : List Event) (n : ℕ) → n ≤ 88 → countsFit (withQueue s queue n) ≡ true
   counts-queue queue n few =

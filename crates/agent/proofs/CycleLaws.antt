@@ -29,7 +29,6 @@ use Rattle.state.proofs.ViewLaws.{length-queue, length-stacks, stack-at}
 use Rattle.agent.specs.declared.Acted.{Acted}
 use Rattle.agent.specs.View.{plainly, eventAt, stackAt}
 use Rattle.agent.specs.Gives.{Replies, Gives}
-use Rattle.agent.specs.TakeUp.{placedEvent}
 use Rattle.agent.specs.Turnable.{placed}
 use Rattle.agent.proofs.GivesLaws.{gives-as, gives-same, gives-answer}
 
@@ -53,6 +52,9 @@ unfolding turn
 turn-answers library s k = turn-by-answers library s k (nextMove library (s .beliefs) (k .it .top))
 
 -- ---- The three ways
+
+abbrev placedEvent : State → ℕ → Placed Event
+placedEvent s place = record { place = place; it = eventAt s place }
 
 module _ (bytes : List ℕ) (s : State) (queue-size : length (s .queue) ≡ 88) (stacks-size : length (s .stacks) ≡ 8)
     (waiting : ℕ) (e : waiting ≡ position (isReady (live (viewStacks s)) (length (viewStacks s))) (viewQueue s)) where

@@ -65,6 +65,11 @@ module _ (bytes : List ℕ) (s : State) where
   pub responds-as : {formed : Bool} → formed ≡ true → (c : Option Call) (r : Acted) → Responds bytes true s c r → Responds bytes formed s c r
   responds-as e c r h = subst⁻¹ (λ (b : Bool). Responds bytes b s c r) e h
 
+  -- the same, of what a line is known to say
+  pub as-told : {formed : Bool} {call : Option Call} {c : Call} {r : Acted} → formed ≡ true → call ≡ some c → Responds bytes true s (some c) r
+      → Responds bytes formed s call r
+  as-told {formed} {call} {c} {r} e told h = subst⁻¹ (λ (o : Option Call). Responds bytes formed s o r) told (responds-as e (some c) r h)
+
   pub trusted-next : (formed : Bool) → Trusted formed bytes s → (c : Option Call) (r : Acted) → Responds bytes formed s c r → Trusted formed bytes (r .state)
   trusted-next true t c r h = λ e. responds-kept (t refl) c r h
   trusted-next false t c r h = λ e. both-ways e refl

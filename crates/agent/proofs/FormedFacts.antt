@@ -55,9 +55,9 @@ use Rattle.state.specs.View.{noStack, depthOf, viewStack, queuedOf, stackedOf, 
 use Rattle.state.proofs.ViewLaws.{length-queue, length-stacks, stack-at}
 use Rattle.state.proofs.StackLaws.{length-down}
 use Rattle.agent.specs.Report.{Hears}
-use Rattle.agent.specs.TakeUp.{posterPlace, HasPoster, TakesUp}
-use Rattle.agent.specs.Turnable.{Turnable}
-use Rattle.agent.specs.View.{eventAt, stackAt}
+use Rattle.agent.specs.TakeUp.{posterIn, HasPoster, HasPlace}
+use Rattle.agent.specs.Turnable.{Runnable, Turnable}
+use Rattle.agent.specs.View.{Sized, eventAt, stackAt}
 use Rattle.state.proofs.CountParts.{counts-parts}
 use Rattle.agent.proofs.CountLaws.{counts-depth}
 
@@ -91,7 +91,13 @@ posted-low beliefs height env b goal e =
     leb-false 8 height (or-parts other (leb 8 height) (or-parts (not (isGround literal)) (other || leb 8 height) barred .1) .1)))
 
 module _ (bytes : List ℕ) (s : State) (fits : countsFit s ≡ true) (formed : isWellFormed (libraryOf bytes) (viewState s) ≡ true)
-    (queue-size : length (s .queue) ≡ 88) (stacks-size : length (s .stacks) ≡ 8) where
+    (sized : Sized s) where
+  queue-size : length (s .queue) ≡ 88
+  queue-size = sized .queue
+
+  stacks-size : length (s .stacks) ≡ 8
+  stacks-size = sized .stacks
+
   whole : WellFormed (libraryOf bytes) (viewState s)
   whole = test-formed (libraryOf bytes) (viewState s) formed
 
@@ -121,7 +127,7 @@ module _ (bytes : List ℕ) (s : State) (fits : countsFit s ≡ true) (formed : 
   queue-in kind l = refl
 
   pub hears : refusalOf bytes ≡ 0 → (kind : ℕ) (l : Literal) → Hears s kind l
-  hears accepted kind l = record { fit = fits; room = room }
+  hears accepted kind l = record { sized = sized; fit = fits; room = room }
     where
       room : reportRefusal (viewState s) kind l ≡ 0 → s .queued < 88
       room e =
@@ -170,21 +176,21 @@ module _ (bytes : List ℕ) (s : State) (fits : countsFit s ≡ true) (formed : 
         reform (subst (λ (x : Event). Like (viewQueue s) (x ∷ removeAt place (viewQueue s))) event-is moved) (like-refl (viewStacks s)) whole
 
     -- the poster of a pending goal is the top of a stack with room
-    goal-poster : isGoal (eventAt s place .origin) ≡ true → HasPoster s (eventAt s place .origin)
+    goal-poster : isGoal (eventAt s place .origin) ≡ true → HasPoster (s .stacks) (s .stacked) (eventAt s place .origin)
     goal-poster g =
         let origin = eventAt s place .origin in
         let some-poster = poster-found event-first g (origin-same origin) unserved in
         let at = any-position (isPoster origin) (viewStacks s) in
-        let found-there = ltb-true (posterPlace s origin) (length (viewStacks s)) (sym at ∙ some-any (isPoster origin) (viewStacks s) some-poster) in
-        let low-there : posterPlace s origin < stackedOf s = omega (arith, length-stacks s stacks-size) in
-        let is-poster = subst (λ (k : Intention). isPoster origin k ≡ true) (stack-at s (posterPlace s origin) noStack low-there)
-        (passes-at (isPoster origin) (viewStacks s) (posterPlace s origin) (viewStack noStack) refl found-there) in
-        let asleep = and-parts (isSuspended (stackAt s (posterPlace s origin) .top .status)) _ is-poster .0 in
-        let height = first-stacked (stack-first (posterPlace s origin) noStack low-there) .room asleep in
-        record { there = low-there; room = omega (arith, height, length-down (depthOf (stackAt s (posterPlace s origin))) (stackAt s (posterPlace s origin) .below)) }
+        let found-there = ltb-true (posterIn (s .stacks) (s .stacked) origin) (length (viewStacks s)) (sym at ∙ some-any (isPoster origin) (viewStacks s) some-poster) in
+        let low-there : posterIn (s .stacks) (s .stacked) origin < stackedOf s = omega (arith, length-stacks s stacks-size) in
+        let is-poster = subst (λ (k : Intention). isPoster origin k ≡ true) (stack-at s (posterIn (s .stacks) (s .stacked) origin) noStack low-there)
+        (passes-at (isPoster origin) (viewStacks s) (posterIn (s .stacks) (s .stacked) origin) (viewStack noStack) refl found-there) in
+        let asleep = and-parts (isSuspended (stackAt s (posterIn (s .stacks) (s .stacked) origin) .top .status)) _ is-poster .0 in
+        let height = first-stacked (stack-first (posterIn (s .stacks) (s .stacked) origin) noStack low-there) .room asleep in
+        record { there = low-there; room = omega (arith, height, length-down (depthOf (stackAt s (posterIn (s .stacks) (s .stacked) origin))) (stackAt s (posterIn (s .stacks) (s .stacked) origin) .below)) }
 
-    pub takes-up : TakesUp s place
-    takes-up = record { there = low; event = record { fit = fits; external = external-room; goal = goal-poster } }
+    pub has-place : HasPlace (s .stacks) (s .stacked) (eventAt s place .origin)
+    has-place = record { external = external-room; goal = goal-poster }
 
   -- ---- The turn of a stack
 
@@ -207,16 +213,22 @@ module _ (bytes : List ℕ) (s : State) (fits : countsFit s ≡ true) (formed : 
         let tried = subst (λ (p : Plan). x .tried ≤ length (getD (p .states) (x .state) [])) is (sound .tried) in
         omega (arith, tried, state-branches (planOf bytes (x .plan) .states) (keeps bytes accepted (x .plan) there .states) (x .state) state)
 
-    pub turnable : place ≡ position isRunning (viewStacks s) → Turnable bytes s place (stackAt s place)
+    pub runnable : Runnable bytes (s .beliefs) (stackAt s place)
+    runnable = record {
+      accepted = accepted;
+      few = counts-parts s fits .beliefs;
+      depth = counts-depth s fits place noStack stacks-size low;
+      plan = top-plan place noStack low;
+      tried = tried-few;
+    }
+
+    pub turnable : place ≡ position isRunning (viewStacks s) → Turnable bytes s (s .beliefs) place (stackAt s place)
     turnable e =
         let k = stackAt s place in
         let running = subst (λ (i : Intention). isRunning i ≡ true) (stack-at s place noStack low)
         (passes-at isRunning (viewStacks s) place (viewStack noStack) e (omega (arith, length-stacks s stacks-size))) in
         record {
-          accepted = accepted;
-          standing = record { counts = fits; exists = low };
-          depth = counts-depth s fits place noStack stacks-size low;
-          plan = top-plan place noStack low;
-          tried = tried-few;
-          room = λ b goal m p. omega (arith, queue-room placed-first (active-awake (k .top .status) running) (posted-low (view (s .beliefs)) (heightOf (viewStack k)) (k .top .env) b goal p), length-queue s queue-size, within);
+          beliefs-are = refl;
+          standing = record { sized = sized; counts = fits; exists = low };
+          room = λ b m goal p. omega (arith, queue-room placed-first (active-awake (k .top .status) running) (posted-low (view (s .beliefs)) (heightOf (viewStack k)) (k .top .env) b goal p), length-queue s queue-size, within);
         }

@@ -4,12 +4,12 @@ use mathlib.Core.Bool.{true, false}
 use mathlib.Core.List.{[]}
 use Rattle.lists.proofs.BoolLaws.{both-ways}
 use Rattle.model.specs.declared.Answer.{Answer}
-use Rattle.model.specs.State.{AgentState, Reply, reply}
+use Rattle.model.specs.State.{Reply, reply}
 use Rattle.model.specs.Calls.{isRefusal}
 use Rattle.state.specs.declared.State.{State}
 use Rattle.state.specs.View.{viewState, countsFit}
 use Rattle.agent.specs.declared.Acted.{Acted}
-use Rattle.agent.specs.View.{viewActed, plainly}
+use Rattle.agent.specs.View.{plainly}
 use Rattle.agent.specs.Gives.{Replies, Gives}
 
 -- ---- The same reply, otherwise written
@@ -21,11 +21,6 @@ pub gives-as : {s : State} {p q : Reply} {r : Acted} → p ≡ q → Gives s p r
 gives-as e h = record { means = h .means ∙ e; fit = h .fit; refused = h .refused }
 
 -- ---- An answer with no changes
-
-pub replies-plainly : (r : Acted) (s : State) (answer : Answer) (v : AgentState) → r ≡ plainly s answer → viewState s ≡ v → countsFit s ≡ true
-    → Replies (reply answer [] v) r
-replies-plainly r s answer v e p fits =
-    record { means = ap viewActed e ∙ ap (reply answer []) p; fit = ap (λ (a : Acted). countsFit (a .state)) e ∙ fits }
 
 -- the state is the one it was: a refusal, or idle
 pub gives-same : (s : State) (answer : Answer) (r : Acted) → r ≡ plainly s answer → countsFit s ≡ true → Gives s (reply answer [] (viewState s)) r

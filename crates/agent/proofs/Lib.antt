@@ -5,6 +5,7 @@ pub mod EventLaws
 pub mod TakeUpLaws
 pub mod ReportLaws
 pub mod CountLaws
+pub mod StepLaws
 pub mod TrialLaws
 pub mod TurnLaws
 pub mod FormedFacts
@@ -12,4 +13,5 @@ pub mod CycleLaws
 pub mod CallsLaws
 pub mod ChainLaws
 pub mod FeedLaws
+pub mod LookLaws
 pub mod ProgressLaws

@@ -1,33 +1,37 @@
 -- What the code of an outcome answers, in the model's terms.
 use Prim.Native.Nat.{ℕ, _<_, _≤_}
 use native.Mathlib.Omega.{arith}
-use mathlib.Core.Path.{_≡_, refl, ap, sym, subst⁻¹, _∙_}
+use mathlib.Core.Path.{_≡_, refl, ap, sym, subst, _∙_}
 use mathlib.Core.Bool.{Bool, true, false}
 use mathlib.Core.Option.{some, none}
 use mathlib.Core.List.{[]}
-use lib.ListN.{length, getD}
+use lib.ListN.{length, getD, set}
 use Rattle.lists.specs.Search.{position}
-use Rattle.library.specs.Plan.{Library}
-use Rattle.model.specs.declared.Instance.{Instance}
-use Rattle.model.specs.State.{Intention, reply}
-use Rattle.belief.specs.Beliefs.{replay}
-use Rattle.model.specs.declared.Answer.the-variants.{Stepped, Missed, Refused}
-use Rattle.model.specs.Instance.{lastTried, awake, pastBranch}
-use Rattle.model.specs.Outcome.{isAwaiting, inTurn, outcomeBy, told}
 use Rattle.lists.proofs.PlaceLaws.{first-at, first-none}
+use Rattle.belief.specs.declared.Beliefs.{Beliefs}
+use Rattle.belief.specs.Beliefs.{replay}
+use Rattle.library.specs.Plan.{Library}
+use Rattle.model.specs.declared.Answer.{Answer}
+use Rattle.model.specs.declared.Answer.the-variants.{Refused}
+use Rattle.model.specs.declared.Instance.{Instance}
+use Rattle.model.specs.State.{Intention, reply, restacked}
+use Rattle.model.specs.Instance.{awake, pastBranch}
+use Rattle.model.specs.Outcome.{isAwaiting, inTurn, outcomeBy, told}
 use Rattle.state.specs.declared.Stack.{Stack}
 use Rattle.state.specs.declared.State.{State}
-use Rattle.state.specs.View.{viewStack, stackedOf, viewStacks, viewState, countsFit}
-use Rattle.state.specs.Stacks.{replaceTop, putAt}
+use Rattle.state.specs.View.{noStack, viewStack, stackedOf, viewStacks, viewState, countsFit}
+use Rattle.state.specs.Stacks.{replaceTop}
+use Rattle.state.proofs.CountParts.{counts-parts}
 use Rattle.state.proofs.ViewLaws.{length-stacks, stack-at}
 use Rattle.state.proofs.StateLaws.{put-state}
-use Rattle.lists.proofs.BoolLaws.{both-ways}
 use Rattle.agent.specs.declared.Acted.{Acted}
-use Rattle.agent.specs.View.{viewActed, plainly}
-use Rattle.agent.specs.Outcome.{steppedOn, missedOn}
-use Rattle.agent.specs.Gives.{Gives}
-use Rattle.agent.proofs.GivesLaws.{gives-as, gives-same}
+use Rattle.agent.specs.View.{Sized, plainly, stackAt}
+use Rattle.agent.specs.Gives.{Replies, Gives}
+use Rattle.agent.specs.Step.{applied}
+use Rattle.agent.specs.Outcome.{toppedStep, steppedOn, missedOn, Awaits}
+use Rattle.agent.proofs.GivesLaws.{gives-as, gives-same, gives-answer}
 use Rattle.agent.proofs.CountLaws.{counts-put, counts-depth}
+use Rattle.agent.proofs.StepLaws.{step-replies}
 
 module _ (library : Library) (s : State) (id place : ℕ) (e : place ≡ position (isAwaiting id) (viewStacks s)) (len : length (s .stacks) ≡ 8) where
   pub told-nobody : (worked : Bool) → stackedOf s ≤ place → told library (viewState s) id worked ≡ outcomeBy library (viewState s) worked none
@@ -43,51 +47,46 @@ module _ (library : Library) (s : State) (id place : ℕ) (e : place ≡ positio
         (first-at (isAwaiting id) (viewStacks s) place (viewStack d) e (omega (arith, length-stacks s len))
         ∙ ap (λ (k : Intention). some (record { place = place; it = k })) (stack-at s place d there))
 
-    -- another top on the stack, turn order as it was
-    put-top : (x : Instance) → viewState (putAt s place (replaceTop (getD (s .stacks) place d) x)) ≡ inTurn (viewState s) (record { place = place; it = viewStack (getD (s .stacks) place d) }) x
-    unfolding replay
-    put-top x = put-state s place (replaceTop (getD (s .stacks) place d) x) len
+-- ---- The step
 
-    pub told-stepped : viewActed (steppedOn library s place (getD (s .stacks) place d)) ≡ told library (viewState s) id true
-    unfolding outcomeBy
-    told-stepped =
-        let x = getD (s .stacks) place d .top in
-        ap (reply (Stepped (x .id) (x .state) (lastTried x) (pastBranch library x .state)) []) (put-top (pastBranch library x)) ∙ sym (told-there true)
+-- another top on the stack, turn order as it was
+topped-replies : (s : State) (place : ℕ) → Sized s → countsFit s ≡ true → place < stackedOf s → (x : Instance) (answer : Answer)
+    → Replies (reply answer [] (inTurn (viewState s) (record { place = place; it = viewStack (stackAt s place) }) x))
+    (applied s (toppedStep (s .beliefs) place (stackAt s place) x answer))
+unfolding replay
+topped-replies s place sized fit there x answer =
+    let next = replaceTop (stackAt s place) x in
+    step-replies s (toppedStep (s .beliefs) place (stackAt s place) x answer) (restacked (viewState s) (set (viewStacks s) place (viewStack next)))
+    (put-state s place next (sized .stacks))
+    (counts-put s fit (sized .stacks) place next (counts-depth s fit place noStack (sized .stacks) there))
+    (counts-parts s fit .beliefs)
 
-    pub told-missed : viewActed (missedOn s place (getD (s .stacks) place d)) ≡ told library (viewState s) id false
-    unfolding outcomeBy
-    told-missed =
-        let x = getD (s .stacks) place d .top in
-        ap (reply (Missed (x .id) (x .state) (lastTried x)) []) (put-top (awake x)) ∙ sym (told-there false)
+-- the same from the parts that the step was decided from
+module _ (library : Library) (s : State) (beliefs : Beliefs) (id place : ℕ) (stack : Stack) (h : Awaits s beliefs id place stack) where
+  from-parts : (worked : Bool) (step : Beliefs → Stack → Acted) → Gives s (told library (viewState s) id worked) (step (s .beliefs) (stackAt s place))
+      → Gives s (told library (viewState s) id worked) (step beliefs stack)
+  from-parts worked step g =
+      let b = h .beliefs-are in
+      let k = h .stack-is in
+      subst (λ (r : Acted). Gives s (told library (viewState s) id worked) r) (λ i. step (b i) (k i)) g
 
--- ---- What each way through the code answers
-
-module _ (library : Library) (s : State) (id : ℕ) (worked : Bool) (place : ℕ) (e : place ≡ position (isAwaiting id) (viewStacks s)) where
-  -- the model's reply to the outcome
-  abbrev Told : Acted → Type 0
-  Told r = Gives s (told library (viewState s) id worked) r
-
-  pub told-refused : length (s .stacks) ≡ 8 → countsFit s ≡ true → stackedOf s ≤ place → (r : Acted) → r ≡ plainly s (Refused 8) → Told r
+  pub told-worked : Gives s (told library (viewState s) id true) (applied s (steppedOn library beliefs place stack))
   unfolding outcomeBy
-  told-refused len fit h r p = gives-as (sym (told-nobody library s id place e len worked h)) (gives-same s (Refused 8) r p fit)
+  told-worked =
+      from-parts true (λ b k. applied s (steppedOn library b place k))
+      (gives-as (sym (told-there library s id place (h .found) (h .sized .stacks) (h .there) noStack true))
+      (gives-answer s _ _ refl (topped-replies s place (h .sized) (h .fit) (h .there) (pastBranch library (stackAt s place .top)) _)))
 
-  module _ (len : length (s .stacks) ≡ 8) (fit : countsFit s ≡ true) (there : place < stackedOf s) (d : Stack) where
-    -- another top keeps the counts
-    top-fits : (x : Instance) → countsFit (putAt s place (replaceTop (getD (s .stacks) place d) x)) ≡ true
-    top-fits x = counts-put s fit len place (replaceTop (getD (s .stacks) place d) x) (counts-depth s fit place d len there)
+  pub told-failed : Gives s (told library (viewState s) id false) (applied s (missedOn beliefs place stack))
+  unfolding outcomeBy
+  told-failed =
+      from-parts false (λ b k. applied s (missedOn b place k))
+      (gives-as (sym (told-there library s id place (h .found) (h .sized .stacks) (h .there) noStack false))
+      (gives-answer s _ _ refl (topped-replies s place (h .sized) (h .fit) (h .there) (awake (stackAt s place .top)) _)))
 
-    pub told-worked : worked ≡ true → (r : Acted) → r ≡ steppedOn library s place (getD (s .stacks) place d) → Told r
-    told-worked w r p =
-        gives-as (ap (told library (viewState s) id) (sym w)) (subst⁻¹ (Gives s (told library (viewState s) id true)) p (record {
-          means = told-stepped library s id place e len there d;
-          fit = top-fits (pastBranch library (getD (s .stacks) place d .top));
-          refused = λ x. both-ways {b = false} x refl;
-        }))
-
-    pub told-failed : worked ≡ false → (r : Acted) → r ≡ missedOn s place (getD (s .stacks) place d) → Told r
-    told-failed w r p =
-        gives-as (ap (told library (viewState s) id) (sym w)) (subst⁻¹ (Gives s (told library (viewState s) id false)) p (record {
-          means = told-missed library s id place e len there d;
-          fit = top-fits (awake (getD (s .stacks) place d .top));
-          refused = λ x. both-ways {b = false} x refl;
-        }))
+-- nobody waits
+pub told-refused : (library : Library) (s : State) (id : ℕ) (worked : Bool) (place : ℕ) → place ≡ position (isAwaiting id) (viewStacks s) → Sized s
+    → countsFit s ≡ true → stackedOf s ≤ place → (r : Acted) → r ≡ plainly s (Refused 8) → Gives s (told library (viewState s) id worked) r
+unfolding outcomeBy
+told-refused library s id worked place e sized fit h r p =
+    gives-as (sym (told-nobody library s id place e (sized .stacks) worked h)) (gives-same s (Refused 8) r p fit)

@@ -1,7 +1,7 @@
 -- A chunk's lines, one after the other: each line that ends is run and printed behind the others, and what does not end goes on after the chunk.
-use Prim.Native.Nat.{ℕ}
+use Prim.Native.Nat.{ℕ, _+_, _≤_}
 use native.Mathlib.Omega.{arith}
-use mathlib.Core.Path.{_≡_, refl, ap, sym, _∙_}
+use mathlib.Core.Path.{_≡_, refl, ap, sym, subst⁻¹, _∙_}
 use mathlib.Core.Bool.{Bool}
 use mathlib.Core.Option.{Option, some}
 use mathlib.Core.List.{List, [], _∷_, _++_, append-assoc}
@@ -57,3 +57,13 @@ module _ (bytes : List ℕ) (formed : Bool) (s : State) (carry : Carry) (chunk b
       runs = p .runs;
       written = p .written;
     }
+
+-- what was written is within the output
+pub written-within : (at : ℕ) {next before after : ℕ} → next ≤ at + mostLine → at + mostLine ≤ before → after ≡ before → next ≤ after
+written-within at few room same = omega (arith, few, room, same)
+
+-- the state otherwise written
+pub progress-as : {bytes : List ℕ} {formed : Bool} {s t u : State} {carry held : Carry} {chunk before after : List ℕ} {read wrote : ℕ} → u ≡ t
+    → Progress bytes formed s carry chunk before after t held read wrote → Progress bytes formed s carry chunk before after u held read wrote
+progress-as {bytes} {formed} {s} {t} {u} {carry} {held} {chunk} {before} {after} {read} {wrote} e h =
+    subst⁻¹ (λ (v : State). Progress bytes formed s carry chunk before after v held read wrote) e h

@@ -19,24 +19,31 @@ use Rattle.literal.specs.declared.Literal.{Literal}
 use Rattle.literal.specs.Literal.{isGround}
 use Rattle.model.specs.declared.Event.{Event}
 use Rattle.model.specs.declared.Answer.the-variants.{Taken, Refused}
-use Rattle.model.specs.State.{AgentState, reply, refuse}
+use Rattle.model.specs.State.{AgentState, Reply, reply, refuse, requeued}
 use Rattle.model.specs.Live.{isExternal}
 use Rattle.model.specs.Report.{isReportable, isOverfull, reportRefusal, reportChanges}
 use Rattle.model.specs.Report.{newEvent, takeIn, reportBy, reported}
 use Rattle.model.specs.Changes.{changeOf, effective}
-use Rattle.lists.proofs.BoolLaws.{by-cases, both-ways}
+use Rattle.lists.proofs.BoolLaws.{by-cases}
+use Rattle.state.specs.declared.Stack.{Stack}
 use Rattle.state.specs.declared.State.{State}
 use Rattle.state.specs.View.{viewQueue, viewStacks, viewState}
-use Rattle.state.specs.Queue.{enqueue}
 use Rattle.state.proofs.StateLaws.{enqueue-state}
+use Rattle.moves.specs.declared.QueueMove.the-variants as queue
+use Rattle.moves.specs.declared.StackMove.the-variants as stacks
+use Rattle.moves.specs.declared.Numbering.the-variants as numbering
 use Rattle.agent.specs.declared.Acted.{Acted}
+use Rattle.agent.specs.declared.step.Step.{Step}
 use Rattle.agent.specs.declared.changes.Altered.{Altered}
 use Rattle.agent.specs.Altered.{untouched, Alters, Extends, Changed}
-use Rattle.agent.specs.View.{plainly, changedTo}
+use Rattle.agent.specs.View.{plainly}
 use Rattle.agent.specs.Gives.{Gives}
-use Rattle.agent.specs.Report.{takenIn, Hears, Reports}
+use Rattle.agent.specs.Step.{applied}
+use Rattle.agent.specs.Report.{HasNumber, heard, Hears, Heard}
 use Rattle.agent.proofs.AlteredLaws.{first-change}
-use Rattle.agent.proofs.CountLaws.{counts-table, counts-enqueue}
+use Rattle.agent.proofs.GivesLaws.{replies-as, gives-as, gives-same, gives-answer}
+use Rattle.agent.proofs.CountLaws.{counts-enqueue}
+use Rattle.agent.proofs.StepLaws.{step-replies}
 
 -- one event more, from the end
 pub count-back : (test : Event → Bool) (xs : List Event) (n : ℕ) (d : Event) (b : Bool) → 0 < n → n ≤ length xs → test (getD xs (n - 1) d) ≡ b
@@ -132,41 +139,26 @@ module _ (b : Beliefs) (t : Altered) (e : t ≡ untouched b) where
 
 -- ---- Taking the report in
 
-module _ (s : State) (kind : ℕ) (l : Literal) (p : Reports s) (lens : (length (s .queue) ≡ 88) × (length (s .stacks) ≡ 8)) where
-  -- the state after it
-  state-in : (t : Altered) (number : ℕ) (event : Event) → Alters (s .beliefs) (reportChanges (view (s .beliefs)) kind l) t → event ≡ newEvent number kind l
-      → viewState (changedTo (enqueue s event) (t .table) number)
-      ≡ record { beliefs = replay (view (s .beliefs)) (reportChanges (view (s .beliefs)) kind l); queue = viewQueue s ++ (newEvent number kind l ∷ []); stacks = viewStacks s; taken = number; made = s .made }
-  state-in t number event a v =
-      let w = enqueue-state s event (lens .0) (p .room) in
-      let b = a .table in
-      λ i. record {
-        beliefs = b i;
-        queue = (ap (λ (x : AgentState). x .queue) w ∙ ap (λ (x : Event). viewQueue s ++ (x ∷ [])) v) i;
-        stacks = w i .stacks;
-        taken = number;
-        made = w i .made;
-      }
+module _ (s : State) (kind : ℕ) (l : Literal) (p : HasNumber s) (altered : Altered) (number : ℕ) (event : Event) (stack : Stack)
+    (a : Alters (s .beliefs) (reportChanges (view (s .beliefs)) kind l) altered) (n : number ≡ s .taken + 1) (v : event ≡ newEvent number kind l) where
+  abbrev takenStep : Step
+  takenStep =
+      record { answer = Taken number; altered = altered; queue = queue.Enqueue event; stacks = stacks.Keep; stack = stack; numbering = numbering.Taken number }
 
-  pub taken-in : (t : Altered) → Alters (s .beliefs) (reportChanges (view (s .beliefs)) kind l) t → (number : ℕ) → number ≡ s .taken + 1
-      → (event : Event) → event ≡ newEvent number kind l → (next : State) → next ≡ enqueue s event
-      → (r : Acted) → r ≡ takenIn next t number → Gives s (takeIn (viewState s) kind l (reportChanges (view (s .beliefs)) kind l)) r
+  abbrev arrived : ℕ → List Change → List Literal → Event → Reply
+  arrived m changes beliefs e =
+      reply (Taken m) changes (record { beliefs = beliefs; queue = viewQueue s ++ (e ∷ []); stacks = viewStacks s; taken = m; made = s .made })
+
+  pub taken-in : Gives s (takeIn (viewState s) kind l (reportChanges (view (s .beliefs)) kind l)) (applied s takenStep)
   unfolding takeIn
-  taken-in t a number n event v next w r z =
-      let from = z ∙ ap (λ (x : State). takenIn x t number) w in
+  taken-in =
+      let cs = reportChanges (view (s .beliefs)) kind l in
       let changes = a .noted in
-      let state = state-in t number event a v in
-      let means = (λ i. reply (Taken number) (changes i) (state i)) ∙ ap (λ (m : ℕ). reply (Taken m) (reportChanges (view (s .beliefs)) kind l) (arrived m)) n in
-      subst⁻¹ (Gives s _) from (record { means = means; fit = counts-table (enqueue s event) (counts-enqueue s (p .fit) event) (t .table) number (a .few); refused = λ x. both-ways {b = false} x refl })
-    where
-      arrived : ℕ → AgentState
-      arrived m = record {
-        beliefs = replay (view (s .beliefs)) (reportChanges (view (s .beliefs)) kind l);
-        queue = viewQueue s ++ (newEvent m kind l ∷ []);
-        stacks = viewStacks s;
-        taken = m;
-        made = s .made;
-      }
+      let table = a .table in
+      let same = (λ i. arrived number (changes i) (table i) (v i)) ∙ ap (λ (m : ℕ). arrived m cs (replay (view (s .beliefs)) cs) (newEvent m kind l)) n in
+      gives-answer s (takeIn (viewState s) kind l cs) (applied s takenStep) refl
+      (replies-as same (step-replies s takenStep (requeued (viewState s) (viewQueue s ++ (event ∷ []))) (enqueue-state s event (p .sized .queue) (p .room))
+      (counts-enqueue s (p .fit) event) (a .few)))
 
 -- ---- The report
 
@@ -180,6 +172,12 @@ spent s kind l e = by-cases (isReportable kind l)
     never : {P : Type 0} {n : ℕ} → suc n ≡ 0 → P
     never z = absurd (omega arith)
 
+-- a report asks only for the beliefs, the queue and the number taken
+pub heard-refusal : (s : State) (beliefs : Beliefs) (events : List Event) (queued taken kind : ℕ) (l : Literal) → Heard s beliefs events queued taken
+    → reportRefusal (heard beliefs events queued taken) kind l ≡ reportRefusal (viewState s) kind l
+unfolding reportRefusal
+heard-refusal s beliefs events queued taken kind l h = rw (h .beliefs-are, h .events-are, h .queued-is, h .taken-is)
+
 module _ (s : State) (kind : ℕ) (l : Literal) (p : Hears s kind l) (refusal : ℕ) (e : refusal ≡ reportRefusal (viewState s) kind l) where
   by-number : reported (viewState s) kind l ≡ reportBy (viewState s) kind l refusal
   unfolding reported
@@ -189,11 +187,16 @@ module _ (s : State) (kind : ℕ) (l : Literal) (p : Hears s kind l) (refusal : 
   unfolding reportBy
   reported-refused h r z =
       let means : refuse refusal (viewState s) ≡ reported (viewState s) kind l = sym (by-number ∙ rw (ne-eqb refusal 0 h)) in
-      subst⁻¹ (Gives s (reported (viewState s) kind l)) z (record { means = means; fit = p .fit; refused = λ x. refl })
+      gives-as means (gives-same s (Refused refusal) r z (p .fit))
 
-  pub reports : refusal ≡ 0 → Reports s
-  reports h = record { fit = p .fit; number = spent (viewState s) kind l (sym e ∙ h); room = p .room (sym e ∙ h) }
+  pub has-number : refusal ≡ 0 → HasNumber s
+  has-number h = record { sized = p .sized; fit = p .fit; number = spent (viewState s) kind l (sym e ∙ h); room = p .room (sym e ∙ h) }
 
   pub reported-taken : refusal ≡ 0 → (r : Acted) → Gives s (takeIn (viewState s) kind l (reportChanges (view (s .beliefs)) kind l)) r → Gives s (reported (viewState s) kind l) r
   unfolding reportBy
-  reported-taken h r t = record { means = t .means ∙ sym (by-number ∙ rw (eq-eqb refusal 0 h)); fit = t .fit; refused = t .refused }
+  reported-taken h r t = gives-as (sym (by-number ∙ rw (eq-eqb refusal 0 h))) t
+
+-- a report that is not refused has a number left
+pub number-left : (beliefs : Beliefs) (events : List Event) (queued taken kind : ℕ) (l : Literal) (refusal : ℕ)
+    → refusal ≡ reportRefusal (heard beliefs events queued taken) kind l → refusal ≡ 0 → taken < 65535
+number-left beliefs events queued taken kind l refusal e h = spent (heard beliefs events queued taken) kind l (sym e ∙ h)

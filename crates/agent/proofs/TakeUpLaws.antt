@@ -24,9 +24,8 @@ use Rattle.model.specs.Calls.{isRefusal}
 use Rattle.state.specs.declared.State.{State}
 use Rattle.state.specs.View.{viewState, countsFit}
 use Rattle.agent.specs.declared.Acted.{Acted}
-use Rattle.agent.specs.View.{plainly, eventAt}
+use Rattle.agent.specs.View.{plainly}
 use Rattle.agent.specs.Gives.{Replies, Gives}
-use Rattle.agent.specs.TakeUp.{placedEvent}
 use Rattle.agent.proofs.GivesLaws.{gives-as, gives-same, gives-answer}
 
 -- ---- Neither way is a refusal
@@ -44,17 +43,15 @@ make-answers s chosen (Goal i state branch) = refl
 -- ---- By the plan chosen
 
 module _ (s : State) (place : ℕ) (bytes : List ℕ) (event : Event) (choice : Selected) (r : Acted)
-    (there : event ≡ eventAt s place)
     (chose : chosenOf choice ≡ choose (view (s .beliefs)) (event .kind) (event .literal) (event .failed) (libraryOf bytes .plans)) where
-  -- the event at the place is taken up
+  -- the event is taken up
   abbrev TakenUp : Type 0
-  TakenUp = Gives s (takeUp (viewState s) (placedEvent s place) (choiceFor (libraryOf bytes) (viewState s) (eventAt s place))) r
+  TakenUp = Gives s (takeUp (viewState s) (record { place = place; it = event }) (choiceFor (libraryOf bytes) (viewState s) event)) r
 
   taken : (o : Option Chosen) → chosenOf choice ≡ o → Gives s (takeUp (viewState s) (record { place = place; it = event }) o) r → TakenUp
   unfolding choiceFor
   taken o e =
-      gives-as (ap (takeUp (viewState s) (record { place = place; it = event })) (sym e ∙ chose)
-      ∙ ap (λ (x : Event). takeUp (viewState s) (record { place = place; it = x }) (choiceFor (libraryOf bytes) (viewState s) x)) there)
+      gives-as (ap (takeUp (viewState s) (record { place = place; it = event })) (sym e ∙ chose))
 
   pub closed : choice .choice ≡ None → Replies (close (viewState s) (record { place = place; it = event }) (event .origin)) r → TakenUp
   unfolding takeUp

@@ -6,7 +6,6 @@ use mathlib.Core.List.{List}
 use lib.ListN.{length, take}
 use lib.Dec.{leb}
 use Rattle.library.specs.Layout.{libraryOf}
-use Rattle.model.specs.declared.Answer.the-variants.{Refused}
 use Rattle.model.specs.State.{Call, Reply, viewResult}
 use Rattle.model.specs.Calls.{callBy, isRefusal}
 use Rattle.state.specs.declared.State.{State}
@@ -15,7 +14,6 @@ use Rattle.formed.specs.Formed.{isFormed}
 use Rattle.agent.specs.declared.Acted.{Acted}
 use Rattle.load.specs.declared.Agent.{Agent}
 use Rattle.agent.specs.declared.Replied.{Replied}
-use Rattle.agent.specs.View.{viewActed, plainly}
 use Rattle.load.specs.Load.{bytesOf}
 
 -- ---- An agent
@@ -45,14 +43,5 @@ pub record Calls (a : Agent) (c : Call) (r : Replied) : Type 0 where
 
 -- ---- Its parts
 
-abbrev pub refusedTen : State → Acted
-refusedTen s = plainly s (Refused 10)
-
 abbrev pub withState : Agent → Acted → Replied
 withState a acted = record { agent = record { library = a .library; length = a .length; state = acted .state }; result = acted .result }
-
--- the same for a library in the first bytes of an array, and a state
-pub record CallsOn (library : List ℕ) (size : ℕ) (s : State) (c : Call) (r : Acted) : Type 0 where
-  pub means : viewActed r ≡ callBy (isWellFormedWith library size s) (libraryOf (take size library)) (viewState s) c
-  pub refused : isRefusal (r .result .answer) ≡ true → r .state ≡ s
-  pub fit : isWellFormedWith library size s ≡ true → countsFit (r .state) ≡ true

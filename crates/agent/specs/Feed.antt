@@ -22,9 +22,7 @@ use Rattle.load.specs.declared.Agent.{Agent}
 use Rattle.agent.specs.declared.Replied.{Replied}
 use Rattle.agent.specs.declared.feed.Fed.{Fed}
 use Rattle.agent.specs.declared.feed.Ran.{Ran}
-use Rattle.agent.specs.declared.feed.Look.{Look}
-use Rattle.agent.specs.declared.feed.Look.the-variants as look
-use Rattle.agent.specs.View.{viewActed, plainly}
+use Rattle.agent.specs.View.{viewActed}
 use Rattle.agent.specs.Cycle.{WellFormedState}
 use Rattle.agent.specs.Calls.{isWellFormedWith, Calls}
 
@@ -55,12 +53,6 @@ pub record Responds (bytes : List ℕ) (formed : Bool) (s : State) (call : Optio
   pub refused : isRefusal (r .result .answer) ≡ true → r .state ≡ s
   -- every count stays within its array
   pub fit : formed ≡ true → countsFit (r .state) ≡ true
-
--- the answer is the one that the line gets, and the state stays as it is; or the state is well formed and may move
-abbrev pub Stays : Bool → State → Option Call → Look → Type 0
-Stays formed s call (look.Answered answer) =
-    (bytes : List ℕ) → Trusted formed bytes s → Responds bytes formed s call (plainly s answer)
-Stays formed s call look.Moves = formed ≡ true
 
 -- what lines say, run one after the other on a state: the text of the results, and the state after them
 pub data Runs (bytes : List ℕ) (formed : Bool) (s : State) : List (Option Call) → List ℕ → State → Type 0 where

@@ -2,6 +2,7 @@ pub mod View
 pub mod Gives
 pub mod Outcome
 pub mod Altered
+pub mod Step
 pub mod Report
 pub mod TakeUp
 pub mod Trial
@@ -10,3 +11,4 @@ pub mod Cycle
 pub mod Calls
 pub mod Chain
 pub mod Feed
+pub mod Look

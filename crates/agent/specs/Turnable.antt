@@ -1,31 +1,34 @@
--- What a turn's workers need and give: a stack at its place, and the reply in which it goes last.
+-- What a turn's workers need, and what their steps give on every state that has the parts that they were decided from.
 use Prim.Native.Nat.{ℕ, _<_, _≤_}
 use mathlib.Core.Path.{_≡_}
-use mathlib.Core.Bool.{Bool, true, cond}
+use mathlib.Core.Bool.{true}
 use mathlib.Core.List.{List, _++_}
 use Rattle.lists.specs.Gap.{removeAt}
+use Rattle.lists.specs.Places.{Placed}
 use Rattle.literal.specs.declared.Literal.{Literal}
-use Rattle.belief.specs.Beliefs.{view}
+use Rattle.belief.specs.declared.Beliefs.{Beliefs}
+use Rattle.belief.specs.Beliefs.{mostBeliefs, view}
 use Rattle.library.specs.declared.Branch.{Branch}
 use Rattle.library.specs.Layout.{planCount, libraryOf}
 use Rattle.accepted.specs.Refusal.{Accepted}
 use Rattle.model.specs.declared.Answer.{Answer}
-use Rattle.model.specs.declared.Event.{Event}
-use Rattle.model.specs.declared.Origin.{Origin}
-use Rattle.model.specs.State.{mostQueued, Intention, AgentState, Reply, reply, requeued}
-use Rattle.lists.specs.Places.{Placed}
-use Rattle.model.specs.Try.{attempt, posted}
-use Rattle.model.specs.End.{closeEvent, markEvent}
-use Rattle.model.specs.Turn.{Move, fails, succeeds, tries, nextMove, heightOf}
+use Rattle.model.specs.State.{mostQueued, Intention, AgentState, Reply, reply}
+use Rattle.model.specs.Try.{Try, posted, attempt, tried}
+use Rattle.model.specs.Turn.{Move, fails, succeeds, tries, nextMove, heightOf, turn}
 use Rattle.state.specs.declared.Stack.{Stack}
 use Rattle.state.specs.declared.State.{State}
 use Rattle.state.specs.View.{mostBelow, viewStack, stackedOf, viewState, countsFit}
-use Rattle.agent.specs.declared.Acted.{Acted}
+use Rattle.moves.specs.declared.QueueMove.{QueueMove}
+use Rattle.moves.specs.Moves.{requeue}
 use Rattle.agent.specs.declared.changes.Altered.{Altered}
+use Rattle.agent.specs.declared.step.Step.{Step}
 use Rattle.agent.specs.declared.turn.Decision.{Decision}
 use Rattle.agent.specs.declared.turn.Decision.the-variants.{Fail, Succeed, Attempt}
-use Rattle.agent.specs.View.{changedTo}
-use Rattle.agent.specs.Altered.{changesOf}
+use Rattle.agent.specs.View.{Sized}
+use Rattle.agent.specs.Gives.{Replies}
+use Rattle.agent.specs.Altered.{changesOf, Alters}
+use Rattle.agent.specs.Trial.{changesBy}
+use Rattle.agent.specs.Step.{applied}
 
 -- the stack as the model has it, with its place
 abbrev pub placed : ℕ → Stack → Placed Intention
@@ -35,27 +38,30 @@ placed place stack = record { place = place; it = viewStack stack }
 
 -- the counts fit, and the stack is one of the stacks
 pub record Standing (s : State) (place : ℕ) : Type 0 where
+  pub sized : Sized s
   pub counts : countsFit s ≡ true
   pub exists : place < stackedOf s
 
-pub record Turnable (bytes : List ℕ) (s : State) (place : ℕ) (stack : Stack) : Type 0 where
+-- the library, the beliefs and the stack are as the code needs them
+pub record Runnable (bytes : List ℕ) (beliefs : Beliefs) (stack : Stack) : Type 0 where
   pub accepted : Accepted bytes
-  pub standing : Standing s place
+  pub few : beliefs .count ≤ mostBeliefs
   pub depth : stack .depth ≤ mostBelow
   pub plan : stack .top .plan < planCount bytes
   pub tried : stack .top .tried ≤ 4
-  pub room : (b : Branch) (goal : Literal) → nextMove (libraryOf bytes) (view (s .beliefs)) (stack .top) ≡ tries b
-      → attempt (view (s .beliefs)) (heightOf (viewStack stack)) (stack .top .env) b ≡ posted goal → s .queued < mostQueued
 
--- ---- What it gives
+-- the queue has room for the goal of a try
+abbrev pub HasRoom : State → Try → Type 0
+HasRoom s try = (goal : Literal) → try ≡ posted goal → s .queued < mostQueued
 
--- the answer, the changes and the altered table, in the code's own types
-abbrev pub replied : State → Answer → Altered → Acted
-replied s answer altered =
-    record {
-      state = changedTo s (altered .table) (s .taken);
-      result = record { answer = answer; changes = altered .changes; count = altered .count };
-    }
+-- the state has these beliefs, a stack at this place, and room for what its top posts
+pub record Turnable (bytes : List ℕ) (s : State) (beliefs : Beliefs) (place : ℕ) (stack : Stack) : Type 0 where
+  pub beliefs-are : s .beliefs ≡ beliefs
+  pub standing : Standing s place
+  pub room : (b : Branch) → nextMove (libraryOf bytes) (view beliefs) (stack .top) ≡ tries b
+      → HasRoom s (attempt (view beliefs) (heightOf (viewStack stack)) (stack .top .env) b)
+
+-- ---- What its step gives
 
 -- the stack at a place goes, these are last in turn, and the table is the altered one
 abbrev pub ended : AgentState → ℕ → List Intention → Answer → Altered → Reply
@@ -69,14 +75,35 @@ ended s place next answer altered =
       made = s .made;
     })
 
--- the queue after an instance's end: its event is closed, or its plan has failed for it
-abbrev pub queueBy : Bool → ℕ → Origin → List Event → List Event
-queueBy closes plan origin queue = cond closes (closeEvent origin queue) (markEvent plan origin queue)
+-- the step that does so, on every state: the queue moves first
+abbrev pub Ended : ℕ → List Intention → Answer → Altered → QueueMove → Step → Type 0
+Ended place next answer altered queue t =
+    (s : State) → Standing (requeue queue s) place → altered .table .count ≤ mostBeliefs
+    → Replies (ended (viewState (requeue queue s)) place next answer altered) (applied s t)
 
--- the state with another queue; the stacks keep their places
-pub record Requeues (s : State) (place : ℕ) (queue : List Event) (r : State) : Type 0 where
-  pub shown : viewState r ≡ requeued (viewState s) queue
-  pub standing : Standing r place
+-- the step of an instance's end
+abbrev pub Ends : Beliefs → ℕ → (AgentState → Reply) → Step → Type 0
+Ends beliefs place expected t =
+    (s : State) → s .beliefs ≡ beliefs → Standing s place → Replies (expected (viewState s)) (applied s t)
+
+-- the step for what came of a branch
+abbrev pub Tried : ℕ → Stack → Branch → Try → Altered → Step → Type 0
+Tried place stack branch try altered t =
+    (s : State) → Standing s place → Alters (s .beliefs) (changesBy try) altered → HasRoom s try
+    → Replies (tried (viewState s) (placed place stack) branch try) (applied s t)
+
+-- the step for a branch
+abbrev pub TriesBranch : Beliefs → ℕ → Stack → Branch → Step → Type 0
+TriesBranch beliefs place stack branch t =
+    let try = attempt (view beliefs) (heightOf (viewStack stack)) (stack .top .env) branch in
+    (s : State) → s .beliefs ≡ beliefs → Standing s place → HasRoom s try
+    → Replies (tried (viewState s) (placed place stack) branch try) (applied s t)
+
+-- the step of a turn
+abbrev pub Turns : List ℕ → Beliefs → ℕ → Stack → Step → Type 0
+Turns bytes beliefs place stack t =
+    (s : State) → Turnable bytes s beliefs place stack
+    → Replies (turn (libraryOf bytes) (viewState s) (placed place stack)) (applied s t)
 
 abbrev pub viewDecision : Decision → Move
 viewDecision Fail = fails

@@ -1,15 +1,15 @@
 -- What a result and a state mean together: the model's reply. What stands where in a state.
 use Prim.Native.Nat.{ℕ}
+use mathlib.Core.Path.{_≡_}
 use mathlib.Core.Bool.{false}
 use mathlib.Core.List.{[], _∷_}
-use lib.ListN.{getD}
-use Rattle.belief.specs.declared.Beliefs.{Beliefs}
+use lib.ListN.{length, getD}
 use Rattle.belief.specs.declared.Change.{Change}
 use Rattle.library.specs.Plan.{noLiteral}
 use Rattle.model.specs.declared.Answer.{Answer}
 use Rattle.model.specs.declared.Answered.{Answered}
 use Rattle.model.specs.declared.Event.{Event}
-use Rattle.model.specs.State.{Reply, viewResult, noEvent}
+use Rattle.model.specs.State.{mostStacks, mostQueued, Reply, viewResult, noEvent}
 use Rattle.state.specs.declared.Stack.{Stack}
 use Rattle.state.specs.declared.State.{State}
 use Rattle.state.specs.View.{noStack, viewState}
@@ -40,15 +40,7 @@ eventAt s place = getD (s .queue) place noEvent
 abbrev pub stackAt : State → ℕ → Stack
 stackAt s place = getD (s .stacks) place noStack
 
--- the state with another belief table, and another number of external events taken
-abbrev pub changedTo : State → Beliefs → ℕ → State
-changedTo s table taken =
-    record {
-      beliefs = table;
-      queue = s .queue;
-      queued = s .queued;
-      stacks = s .stacks;
-      stacked = s .stacked;
-      taken = taken;
-      made = s .made;
-    }
+-- the arrays have their lengths, as in every state of the code
+pub record Sized (s : State) : Type 0 where
+  pub queue : length (s .queue) ≡ mostQueued
+  pub stacks : length (s .stacks) ≡ mostStacks

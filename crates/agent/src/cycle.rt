@@ -1,14 +1,13 @@
 // Cycle: a pending event is taken up, else a stack has its turn, else the agent is idle.
-ghost use mathlib.Core.Path.{_≡_};
-ghost use mathlib.Core.Bool.{true};
 ghost use Rattle.library.specs.Layout.{libraryOf};
 ghost use Rattle.model.specs.Cycle.{cycled};
 ghost use Rattle.state.specs.View.{viewState};
 ghost use Rattle.agent.specs.Gives.{Gives};
-ghost use Rattle.agent.specs.Cycle.{WellFormedState, Idles};
-use crate::Acted;
-use crate::answer;
+ghost use Rattle.agent.specs.Step.{applied};
+ghost use Rattle.agent.specs.Cycle.{WellFormedState};
 use crate::event;
+use crate::step;
+use crate::step::Step;
 use crate::turn;
 use model::Answer;
 use state::State;
@@ -16,34 +15,23 @@ use state::queue;
 use state::search;
 use state::stacks;
 
-// Whether no event may be taken up and no stack can run.
-pub(crate) fn is_idle(s: State) -> bool
-    ensures { λ r. ⌜ (r ≡ true → Idles s) ⌝ }
-{
-    let waiting = search::next_event(s);
-    let queued = queue::queued_of(s);
-    if waiting < queued {
-        return false;
-    }
-    let running = search::next_stack(s);
-    let stacked = stacks::stacked_of(s);
-    stacked <= running
-}
-
 // One cycle, on a well-formed state of an accepted library.
-pub(crate) fn cycle_on(library: &[u8], s: State) -> Acted
+pub(crate) fn cycle_on(library: &[u8], s: State) -> Step
     requires { ⌜ WellFormedState (now library) s ⌝ }
-    ensures { λ r. ⌜ Gives s (cycled (libraryOf (now (library .entry))) (viewState s)) r ⌝ }
+    ensures { λ r. ⌜ Gives s (cycled (libraryOf (now (library .entry))) (viewState s)) (applied s r) ⌝ }
 {
+    let b = s.beliefs;
     let waiting = search::next_event(s);
-    let queued = queue::queued_of(s);
-    if waiting < queued {
-        return event::take_up(library, s, waiting);
+    if waiting < queue::queued_of(s) {
+        let event = s.queue[waiting];
+        let stacks = s.stacks;
+        return event::take_up(library, b, s.made, stacks, s.stacked, waiting, event);
     }
-    let running = search::next_stack(s);
-    let stacked = stacks::stacked_of(s);
-    if running < stacked {
-        return turn::turn(library, s, running);
+    let standing = s.stacks;
+    let running = search::next_stack(standing, s.stacked);
+    if running < stacks::stacked_of(s) {
+        let stack = s.stacks[running];
+        return turn::turn(library, b, running, stack);
     }
-    answer::acted(s, Answer::Idle)
+    step::no_step(b, Answer::Idle)
 }

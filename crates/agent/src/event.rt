@@ -1,18 +1,16 @@
 // Taking up a pending event: an instance is made for it, or it is closed.
 ghost use mathlib.Core.Path.{_≡_};
-ghost use mathlib.Core.Bool.{true};
 ghost use Prim.Native.Nat.{_<_, _≤_};
-ghost use Rattle.library.specs.Layout.{libraryOf};
-ghost use Rattle.model.specs.State.{mostNumber, mostStacks};
-ghost use Rattle.model.specs.Event.{newInstance, opened, pushed, make, woken, close, takeUp};
-ghost use Rattle.model.specs.Cycle.{choiceFor};
-ghost use Rattle.state.specs.View.{mostBelow, countsFit, viewStack, viewState};
-ghost use Rattle.agent.specs.View.{eventAt};
-ghost use Rattle.agent.specs.Gives.{Replies, Gives};
-ghost use Rattle.agent.specs.TakeUp.{placedEvent, HasPoster, HasPlace, TakesUp};
-use crate::Acted;
-use crate::answer;
+ghost use Rattle.model.specs.State.{mostNumber};
+ghost use Rattle.model.specs.Instance.{awake};
+ghost use Rattle.model.specs.Event.{newInstance, pushed, make, close};
+ghost use Rattle.state.specs.View.{mostBelow, viewStack};
+ghost use Rattle.state.specs.Stacks.{replaceTop};
+ghost use Rattle.agent.specs.TakeUp.{HasPlace, openedStack, openedStep, Pushes, Drops, unmetStep, Makes, Closes, TakesUp};
 use crate::instance;
+use crate::step;
+use crate::step::Step;
+use belief::Beliefs;
 use literal::Env;
 use model::Answer;
 use model::Event;
@@ -21,12 +19,14 @@ use model::MOST_NUMBER;
 use model::Number;
 use model::Origin;
 use model::Status;
+use moves::Numbering;
+use moves::QueueMove;
+use moves::StackMove;
 use situation::Choice;
 use situation::failed;
 use state::MOST_BELOW;
+use state::MOST_STACKS;
 use state::Stack;
-use state::State;
-use state::queue;
 use state::search;
 use state::stacks;
 
@@ -50,7 +50,7 @@ fn new_instance(made: Number, plan: u16, env: Env) -> Instance
 
 // A new stack for an external event.
 fn new_stack(external: Number, x: Instance) -> Stack
-    ensures { λ r. ⌜ (viewStack r ≡ opened external x) × (r .depth ≤ mostBelow) ⌝ }
+    ensures { λ r. ⌜ r ≡ openedStack external x ⌝ }
 {
     Stack {
         top: x,
@@ -70,8 +70,7 @@ fn with_pushed(stack: Stack, x: Instance) -> Stack
 
 // The poster's stack, its top active again.
 fn woken(stack: Stack) -> Stack
-    requires { ⌜ stack .depth ≤ mostBelow ⌝ }
-    ensures { λ r. ⌜ (viewStack r ≡ woken (viewStack stack)) × (r .depth ≤ mostBelow) ⌝ }
+    ensures { λ r. ⌜ r ≡ replaceTop stack (awake (stack .top)) ⌝ }
 {
     let top = stack.top;
     let poster = instance::awoken(top);
@@ -81,154 +80,180 @@ fn woken(stack: Stack) -> Stack
     }
 }
 
+// ---- Made
+
 // An instance for an external event, on a new stack last in turn.
-fn make_external(s: State, plan: u16, env: Env, external: Number) -> Acted
-    requires { ⌜ (countsFit s ≡ true) × (s .stacked < mostStacks) × (s .made < mostNumber) ⌝ }
-    ensures { λ r. ⌜ Replies (make (viewState s) (record { plan = plan; env = env }) (Origin.External external)) r ⌝ }
+fn make_external(b: Beliefs, made: Number, plan: u16, env: Env, external: Number) -> Step
+    requires { ⌜ made < mostNumber ⌝ }
+    ensures { λ r. ⌜ r ≡ openedStep b made (record { plan = plan; env = env }) external ⌝ }
 {
-    let x = new_instance(s.made, plan, env);
+    let x = new_instance(made, plan, env);
     let stack = new_stack(external, x);
-    let opened = stacks::with_stack(s, stack);
-    let next = State {
-        made: x.id,
-        ..opened
-    };
     let answer = Answer::MadeExternal {
         instance: x.id,
         plan: plan,
         external: external,
     };
-    answer::acted(next, answer)
+    step::plain_step(
+        b,
+        answer,
+        QueueMove::Keep,
+        StackMove::Open,
+        stack,
+        Numbering::Made(x.id),
+    )
 }
 
-// An instance for a goal, on the poster's stack.
-fn make_goal(s: State, plan: u16, env: Env, instance: Number, state: u16, branch: u16) -> Acted
-    requires { ⌜ (countsFit s ≡ true) × (s .made < mostNumber) × HasPoster s (Origin.Goal instance state branch) ⌝ }
-    ensures { λ r. ⌜ Replies (make (viewState s) (record { plan = plan; env = env }) (Origin.Goal instance state branch)) r ⌝ }
+// An instance for a goal, on its poster's stack.
+fn make_goal(
+    b: Beliefs,
+    made: Number,
+    plan: u16,
+    env: Env,
+    instance: Number,
+    poster: usize,
+    stack: Stack,
+) -> Step
+    requires { ⌜ (made < mostNumber) × (stack .depth < mostBelow) ⌝ }
+    ensures { λ r. ⌜ Pushes b made (record { plan = plan; env = env }) instance poster stack r ⌝ }
 {
-    let goal = Origin::Goal {
-        instance: instance,
-        state: state,
-        branch: branch,
-    };
-    let place = search::poster_place(s, goal);
-    let stack = s.stacks[place];
-    let x = new_instance(s.made, plan, env);
+    let x = new_instance(made, plan, env);
     let higher = with_pushed(stack, x);
-    let pushed = stacks::with_stack_at(s, place, higher);
-    let next = State {
-        made: x.id,
-        ..pushed
-    };
     let answer = Answer::MadeGoal {
         instance: x.id,
         plan: plan,
         poster: instance,
     };
-    answer::acted(next, answer)
+    step::plain_step(
+        b,
+        answer,
+        QueueMove::Keep,
+        StackMove::Replace(poster),
+        higher,
+        Numbering::Made(x.id),
+    )
 }
 
 // An instance for the event.
-fn make_event(s: State, event: Event, plan: u16, env: Env) -> Acted
-    requires { ⌜ HasPlace s (event .origin) × (s .made < mostNumber) ⌝ }
-    ensures { λ r. ⌜ Replies (make (viewState s) (record { plan = plan; env = env }) (event .origin)) r ⌝ }
+fn make_event(
+    b: Beliefs,
+    made: Number,
+    stacks: [Stack; MOST_STACKS],
+    stacked: usize,
+    origin: Origin,
+    plan: u16,
+    env: Env,
+) -> Step
+    requires { ⌜ HasPlace stacks stacked origin × (made < mostNumber) ⌝ }
+    ensures { λ r. ⌜ Makes b made stacks stacked (λ s. make s (record { plan = plan; env = env }) origin) r ⌝ }
 {
-    let origin = event.origin;
     match origin {
-        Origin::External(external) => make_external(s, plan, env, external),
+        Origin::External(external) => make_external(b, made, plan, env, external),
         Origin::Goal {
             instance,
-            state,
-            branch,
-        } => make_goal(s, plan, env, instance, state, branch),
+            state: _,
+            branch: _,
+        } => {
+            let poster = search::poster_place(stacks, stacked, origin);
+            let stack = stacks[poster];
+            make_goal(b, made, plan, env, instance, poster, stack)
+        }
     }
 }
 
+// ---- Closed
+
 // An external event for which no plan applies is dropped.
-fn drop_event(s: State, place: usize, event: Event, external: Number) -> Acted
-    requires { ⌜ countsFit s ≡ true ⌝ }
-    ensures { λ r. ⌜ Replies (close (viewState s) (record { place = place; it = event }) (Origin.External external)) r ⌝ }
+fn drop_event(b: Beliefs, place: usize, external: Number, failures: u32) -> Step
+    ensures { λ r. ⌜ Drops b place external failures r ⌝ }
 {
-    let failures = failed::size(event.failed);
-    let next = queue::without_event(s, place);
+    let stack = step::no_stack();
     let answer = Answer::Dropped {
         external: external,
         failures: failures,
     };
-    answer::acted(next, answer)
+    step::plain_step(
+        b,
+        answer,
+        QueueMove::Remove(place),
+        StackMove::Keep,
+        stack,
+        Numbering::Keep,
+    )
 }
 
 // A goal for which no plan applies is unmet: its poster is active again.
-fn unmet_goal(
-    s: State,
-    place: usize,
-    event: Event,
-    instance: Number,
-    state: u16,
-    branch: u16,
-) -> Acted
-    requires { ⌜ (countsFit s ≡ true) × HasPoster s (Origin.Goal instance state branch) ⌝ }
-    ensures { λ r. ⌜ Replies (close (viewState s) (record { place = place; it = event }) (Origin.Goal instance state branch)) r ⌝ }
+fn unmet_goal(b: Beliefs, place: usize, answer: Answer, poster: usize, stack: Stack) -> Step
+    ensures { λ r. ⌜ r ≡ unmetStep b place answer poster stack ⌝ }
 {
-    let goal = Origin::Goal {
-        instance: instance,
-        state: state,
-        branch: branch,
-    };
-    let poster = search::poster_place(s, goal);
-    let stack = s.stacks[poster];
     let running = woken(stack);
-    let resumed = stacks::with_stack_at(s, poster, running);
-    let next = queue::without_event(resumed, place);
-    let failures = failed::size(event.failed);
-    let answer = Answer::Unmet {
-        instance: instance,
-        state: state,
-        branch: branch,
-        failures: failures,
-    };
-    answer::acted(next, answer)
+    step::plain_step(
+        b,
+        answer,
+        QueueMove::Remove(place),
+        StackMove::Replace(poster),
+        running,
+        Numbering::Keep,
+    )
 }
 
 // The event leaves the queue.
-fn close_event(s: State, place: usize, event: Event) -> Acted
-    requires { ⌜ HasPlace s (event .origin) ⌝ }
-    ensures { λ r. ⌜ Replies (close (viewState s) (record { place = place; it = event }) (event .origin)) r ⌝ }
+fn close_event(
+    b: Beliefs,
+    stacks: [Stack; MOST_STACKS],
+    stacked: usize,
+    place: usize,
+    event: Event,
+) -> Step
+    requires { ⌜ HasPlace stacks stacked (event .origin) ⌝ }
+    ensures { λ r. ⌜ Closes b stacks stacked (λ s. close s (record { place = place; it = event }) (event .origin)) r ⌝ }
 {
+    let failures = failed::size(event.failed);
     let origin = event.origin;
     match origin {
-        Origin::External(external) => drop_event(s, place, event, external),
+        Origin::External(external) => drop_event(b, place, external, failures),
         Origin::Goal {
             instance,
             state,
             branch,
-        } => unmet_goal(s, place, event, instance, state, branch),
+        } => {
+            let poster = search::poster_place(stacks, stacked, origin);
+            let stack = stacks[poster];
+            let answer = Answer::Unmet {
+                instance: instance,
+                state: state,
+                branch: branch,
+                failures: failures,
+            };
+            unmet_goal(b, place, answer, poster, stack)
+        }
     }
 }
 
+// ---- Taken up
+
 // The event at a place is taken up: by the first applicable plan, or closed; refused where no instance number is left.
-pub(crate) fn take_up(library: &[u8], s: State, place: usize) -> Acted
-    requires { ⌜ TakesUp s place ⌝ }
-    ensures { λ r. ⌜ Gives s (takeUp (viewState s) (placedEvent s place)
-        (choiceFor (libraryOf (now (library .entry))) (viewState s) (eventAt s place))) r ⌝ }
+pub(crate) fn take_up(
+    library: &[u8],
+    b: Beliefs,
+    made: Number,
+    stacks: [Stack; MOST_STACKS],
+    stacked: usize,
+    place: usize,
+    event: Event,
+) -> Step
+    requires { ⌜ HasPlace stacks stacked (event .origin) ⌝ }
+    ensures { λ r. ⌜ TakesUp (now (library .entry)) b made stacks stacked place event r ⌝ }
 {
-    let event = s.queue[place];
-    let beliefs = s.beliefs;
-    let selected = situation::choose_plan(
-        library,
-        beliefs,
-        event.kind,
-        event.literal,
-        event.failed,
-    );
+    let selected = situation::choose_plan(library, b, event.kind, event.literal, event.failed);
     let choice = selected.choice;
     let Choice::Plan(plan) = choice else {
-        return close_event(s, place, event);
+        return close_event(b, stacks, stacked, place, event);
     };
-    if MOST_NUMBER <= s.made {
-        let refusal = Answer::Refused(NO_NUMBER_LEFT);
-        return answer::acted(s, refusal);
+    if MOST_NUMBER <= made {
+        return step::no_step(b, Answer::Refused(NO_NUMBER_LEFT));
     }
     let env = selected.env;
-    make_event(s, event, plan, env)
+    let origin = event.origin;
+    make_event(b, made, stacks, stacked, origin, plan, env)
 }

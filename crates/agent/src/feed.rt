@@ -1,29 +1,18 @@
 // A chunk of the journal: its lines are run one after the other. The well-formed test is made once, and what it shows is kept.
 ghost use mathlib.Core.Path.{_≡_};
-ghost use mathlib.Core.Bool.{true};
-ghost use mathlib.Core.Option.{some};
-ghost use Rattle.model.specs.State.{cycle};
-ghost use Rattle.reading.specs.Spoken.{meaning};
-ghost use Rattle.agent.specs.Cycle.{WellFormedState};
-ghost use Rattle.agent.specs.Feed.{refusalFor, Trusted, Responds, Stays, RunsChunk, RunsOn, Feeds};
-use crate::Acted;
+ghost use Rattle.agent.specs.Feed.{Trusted, RunsChunk, RunsOn, Feeds};
 use crate::answer;
-use crate::calls;
-use crate::cycle;
-use crate::outcome;
-use crate::report;
+use crate::look;
+use crate::look::Look;
+use crate::respond;
+use crate::step;
 use load::Agent;
-use model::Answer;
+use moves::queue;
+use moves::stacks;
 use printing::MOST_LINE;
-use reading::Spoken;
 use state::State;
 use stream::Carry;
 use stream::Next;
-
-// The refusal of a line that cannot be read, and of a state that is not well formed.
-const UNREADABLE: u16 = 0;
-
-const NOT_WELL_FORMED: u16 = 10;
 
 // The agent and the line so far after a chunk, how much of the chunk was read and how much of the output written.
 pub struct Fed {
@@ -39,70 +28,6 @@ struct Ran {
     carry: Carry,
     read: usize,
     wrote: usize,
-}
-
-// What a line gives: an answer that leaves the state as it is, or it moves the state.
-enum Look {
-    Answered(Answer),
-    Moves,
-}
-
-// ---- One line
-
-// What a line says is done, on a well-formed state.
-fn act(library: &[u8], s: State, spoken: Spoken) -> Acted
-    requires { ⌜ WellFormedState (now library) s ⌝ }
-    ensures { λ r. ⌜ Responds (now (library .entry)) true s (meaning spoken) r ⌝ }
-{
-    match spoken {
-        Spoken::Report { kind, literal } => report::report_on(s, kind, literal),
-        Spoken::Cycle => cycle::cycle_on(library, s),
-        Spoken::Outcome { id, worked } => outcome::tell(library, s, id, worked),
-        Spoken::Unreadable => answer::acted(s, Answer::Refused(UNREADABLE)),
-    }
-}
-
-fn look_for_idle(s: State) -> Look
-    ensures { λ r. ⌜ Stays true s (some cycle) r ⌝ }
-{
-    if cycle::is_idle(s) {
-        return Look::Answered(Answer::Idle);
-    }
-    Look::Moves
-}
-
-// What a line is refused with where the state is not well formed.
-fn refusal_of(spoken: Spoken) -> u16
-    ensures { λ r. ⌜ r ≡ refusalFor (meaning spoken) ⌝ }
-{
-    match spoken {
-        Spoken::Report {
-            kind: _,
-            literal: _,
-        } => NOT_WELL_FORMED,
-        Spoken::Cycle => NOT_WELL_FORMED,
-        Spoken::Outcome { id: _, worked: _ } => NOT_WELL_FORMED,
-        Spoken::Unreadable => UNREADABLE,
-    }
-}
-
-// The answer to a line that leaves the state as it is: a refusal of the line or of the state, or an idle cycle.
-fn look_at(formed: bool, s: State, spoken: Spoken) -> Look
-    ensures { λ r. ⌜ Stays formed s (meaning spoken) r ⌝ }
-{
-    if !formed {
-        let refusal = refusal_of(spoken);
-        return Look::Answered(Answer::Refused(refusal));
-    }
-    match spoken {
-        Spoken::Report {
-            kind: _,
-            literal: _,
-        } => Look::Moves,
-        Spoken::Cycle => look_for_idle(s),
-        Spoken::Outcome { id: _, worked: _ } => Look::Moves,
-        Spoken::Unreadable => Look::Answered(Answer::Refused(UNREADABLE)),
-    }
 }
 
 // ---- A chunk
@@ -144,12 +69,33 @@ fn run_lines(
         };
         held = stream::no_line();
         read = at;
-        let Look::Answered(answer) = look_at(formed, state, call) else {
-            let acted = act(library, state, call);
-            let after = acted.state;
-            let result = acted.result;
+        let look = look::look_at(formed, state, call);
+        let Look::Answered(answer) = look else {
+            let at = look::place_of(look);
+            let top = state.stacks[at];
+            let step = respond::act(library, formed, state, call, look, top);
+            let result = step::result_of(step);
             wrote = printing::print_result(out, wrote, result);
-            state = after;
+            let change = step.queue;
+            if queue::moves_queue(change) {
+                let events = state.queue;
+                let n = state.queued;
+                let place = queue::place_in(events, n, change);
+                state.queue = queue::events_after(events, n, place, change);
+                state.queued = queue::queued_after(n, place, change);
+            }
+            let standing = state.stacks;
+            let m = state.stacked;
+            let moved = step.stacks;
+            let stack = step.stack;
+            state.stacks = stacks::stacks_after(standing, m, moved, stack);
+            state.stacked = stacks::stacked_after(m, moved);
+            let numbering = step.numbering;
+            state.taken = moves::taken_after(state.taken, numbering);
+            state.made = moves::made_after(state.made, numbering);
+            let altered = step.altered;
+            let table = altered.table;
+            state.beliefs = table;
             continue;
         };
         let result = answer::plain_result(answer);
@@ -169,7 +115,7 @@ fn run_tested(
 ) -> Ran
     ensures { λ r. ⌜ RunsOn (now (library .entry)) length s carry (now (chunk .entry)) (now (out .entry)) (now (out .exit)) r ⌝ }
 {
-    if !calls::is_well_formed(library, length, s) {
+    if !respond::is_well_formed(library, length, s) {
         return run_lines(library, false, s, carry, chunk, out);
     }
     run_lines(&library[..length], true, s, carry, chunk, out)

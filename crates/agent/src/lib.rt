@@ -11,8 +11,11 @@ mod ends; // success and failure
 mod event; // taking up a pending event
 mod instance; // an instance moves on
 pub mod feed; // a chunk of the journal
+mod look; // what a line gives, before anything moves
 mod outcome; // the outcome of an external action
 mod report; // a report of a device
+mod respond; // what a line or a call gives
+mod step; // what a call decides
 mod tries; // trying a branch
 mod turn; // the turn of a stack
 

@@ -1,85 +1,71 @@
 // Outcome: the waiting instance steps past its action, or is missed; turn order stays.
 ghost use mathlib.Core.Path.{_≡_};
-ghost use mathlib.Core.Bool.{true};
 ghost use Rattle.library.specs.Layout.{libraryOf};
-ghost use Rattle.model.specs.Outcome.{told};
-ghost use Rattle.state.specs.Stacks.{replaceTop, putAt};
-ghost use Rattle.state.specs.View.{viewState, countsFit};
-ghost use Rattle.agent.specs.Gives.{Gives};
-ghost use Rattle.agent.specs.Outcome.{steppedOn, missedOn};
-use crate::Acted;
-use crate::answer;
+ghost use Rattle.agent.specs.Outcome.{toppedStep, steppedOn, missedOn, Tells};
 use crate::instance;
+use crate::step;
+use crate::step::Step;
+use belief::Beliefs;
 use model::Answer;
 use model::Instance;
-use model::Number;
+use moves::Numbering;
+use moves::QueueMove;
+use moves::StackMove;
 use state::Stack;
-use state::State;
 use state::origin;
-use state::search;
-use state::stacks;
 
-// The refusal of an outcome for an id that is not waiting.
-const NOT_WAITING: u16 = 8;
-
-// The state with another top on the stack at a place.
-fn with_top_at(s: State, place: usize, stack: Stack, x: Instance) -> State
-    ensures { λ r. ⌜ r ≡ putAt s place (replaceTop stack x) ⌝ }
+// Another top on the stack at a place.
+fn topped(b: Beliefs, place: usize, stack: Stack, x: Instance, answer: Answer) -> Step
+    ensures { λ r. ⌜ r ≡ toppedStep b place stack x answer ⌝ }
 {
     let next = Stack { top: x, ..stack };
-    stacks::with_stack_at(s, place, next)
+    step::plain_step(
+        b,
+        answer,
+        QueueMove::Keep,
+        StackMove::Replace(place),
+        next,
+        Numbering::Keep,
+    )
 }
 
 // The action worked: the instance steps.
-fn step_on(library: &[u8], s: State, place: usize, stack: Stack) -> Acted
-    ensures { λ r. ⌜ r ≡ steppedOn (libraryOf (now (library .entry))) s place stack ⌝ }
+fn step_on(library: &[u8], b: Beliefs, place: usize, stack: Stack) -> Step
+    ensures { λ r. ⌜ r ≡ steppedOn (libraryOf (now (library .entry))) b place stack ⌝ }
 {
     let x = stack.top;
     let next = instance::past_branch(library, x);
-    let t = with_top_at(s, place, stack, next);
     let last = origin::last_tried(x);
-    answer::acted(
-        t,
-        Answer::Stepped {
-            instance: x.id,
-            state: x.state,
-            branch: last,
-            next: next.state,
-        },
-    )
+    let answer = Answer::Stepped {
+        instance: x.id,
+        state: x.state,
+        branch: last,
+        next: next.state,
+    };
+    topped(b, place, stack, next, answer)
 }
 
 // The action did not work: the branch is missed.
-fn miss(s: State, place: usize, stack: Stack) -> Acted
-    ensures { λ r. ⌜ r ≡ missedOn s place stack ⌝ }
+fn miss(b: Beliefs, place: usize, stack: Stack) -> Step
+    ensures { λ r. ⌜ r ≡ missedOn b place stack ⌝ }
 {
     let x = stack.top;
     let next = instance::awoken(x);
-    let t = with_top_at(s, place, stack, next);
     let last = origin::last_tried(x);
-    answer::acted(
-        t,
-        Answer::Missed {
-            instance: x.id,
-            state: x.state,
-            branch: last,
-        },
-    )
+    let answer = Answer::Missed {
+        instance: x.id,
+        state: x.state,
+        branch: last,
+    };
+    topped(b, place, stack, next, answer)
 }
 
-// An outcome for an id, on a state whose counts fit.
-pub(crate) fn tell(library: &[u8], s: State, id: Number, worked: bool) -> Acted
-    requires { ⌜ countsFit s ≡ true ⌝ }
-    ensures { λ r. ⌜ Gives s (told (libraryOf (now (library .entry))) (viewState s) id worked) r ⌝ }
+// An outcome for the top of the stack at a place, which waits for it.
+pub(crate) fn tell_at(library: &[u8], b: Beliefs, place: usize, stack: Stack, worked: bool) -> Step
+    ensures { λ r. ⌜ Tells (libraryOf (now (library .entry))) b place stack worked r ⌝ }
 {
-    let place = search::waiting_place(s, id);
-    let n = stacks::stacked_of(s);
-    if n <= place {
-        return answer::acted(s, Answer::Refused(NOT_WAITING));
-    }
-    let stack = s.stacks[place];
     if worked {
-        return step_on(library, s, place, stack);
+        return step_on(library, b, place, stack);
     }
-    miss(s, place, stack)
+    miss(b, place, stack)
 }

@@ -1,31 +1,33 @@
 // Report: a belief change, and an external event at the queue's end.
 ghost use mathlib.Core.Path.{_≡_};
-ghost use Prim.Native.Nat.{_≤_};
+ghost use Prim.Native.Nat.{min, _<_, _≤_};
+ghost use lib.ListN.{take};
 ghost use Rattle.lists.specs.Counts.{count};
 ghost use Rattle.belief.specs.Beliefs.{mostBeliefs, view};
+ghost use Rattle.model.specs.State.{mostNumber, mostQueued};
 ghost use Rattle.model.specs.Live.{isExternal};
-ghost use Rattle.model.specs.Report.{isReportable, isOverfull, reportRefusal, reportChanges, newEvent, takeIn, reported};
-ghost use Rattle.state.specs.View.{viewQueue, viewState};
+ghost use Rattle.model.specs.Report.{isReportable, isOverfull, reportRefusal, reportChanges, newEvent};
 ghost use Rattle.agent.specs.Altered.{Alters};
-ghost use Rattle.agent.specs.Gives.{Gives};
-ghost use Rattle.agent.specs.Report.{Hears, Reports};
-use crate::Acted;
-use crate::answer;
+ghost use Rattle.agent.specs.Report.{heard, TakesIn, Reports};
 use crate::changes;
 use crate::changes::Altered;
+use crate::step;
+use crate::step::Step;
 use belief::Beliefs;
 use belief::MOST_BELIEFS;
 use literal::Literal;
 use model::Answer;
-use model::Answered;
 use model::Event;
 use model::MOST_EXTERNAL;
 use model::MOST_NUMBER;
+use model::Number;
 use model::Origin;
 use model::TOLD;
-use state::State;
+use moves::Numbering;
+use moves::QueueMove;
+use moves::StackMove;
+use state::MOST_QUEUED;
 use state::origin;
-use state::queue;
 
 // Refusals of a report, in the order of the tests.
 const MALFORMED: u16 = 5;
@@ -36,16 +38,26 @@ const QUEUE_FULL: u16 = 7;
 
 const TABLE_FULL: u16 = 6;
 
-// How many external events are queued.
-fn external_count(s: State) -> usize
-    ensures { λ r. ⌜ r ≡ count isExternal (viewQueue s) ⌝ }
+// How many places of the queue are in use.
+fn in_use(queued: usize) -> usize
+    ensures { λ r. ⌜ r ≡ min queued mostQueued ⌝ }
 {
-    let n = queue::queued_of(s);
+    if queued < MOST_QUEUED {
+        return queued;
+    }
+    MOST_QUEUED
+}
+
+// How many of the queued events are external.
+fn external_count(events: [Event; MOST_QUEUED], queued: usize) -> usize
+    ensures { λ r. ⌜ r ≡ count isExternal (take (min queued mostQueued) events) ⌝ }
+{
+    let n = in_use(queued);
     let mut found: usize = 0;
     let mut left = n;
     while 0 < left {
         left -= 1;
-        let event = s.queue[left];
+        let event = events[left];
         let origin = event.origin;
         if !origin::is_goal(origin) {
             found += 1;
@@ -78,20 +90,26 @@ fn is_overfull(b: Beliefs, kind: u16, l: Literal) -> bool
 }
 
 // The refusal's number, 0 where there is none.
-fn refusal_of(s: State, kind: u16, l: Literal) -> u16
-    requires { ⌜ s .beliefs .count ≤ mostBeliefs ⌝ }
-    ensures { λ r. ⌜ r ≡ reportRefusal (viewState s) kind l ⌝ }
+fn refusal_of(
+    b: Beliefs,
+    events: [Event; MOST_QUEUED],
+    queued: usize,
+    taken: Number,
+    kind: u16,
+    l: Literal,
+) -> u16
+    requires { ⌜ b .count ≤ mostBeliefs ⌝ }
+    ensures { λ r. ⌜ r ≡ reportRefusal (heard b events queued taken) kind l ⌝ }
 {
     if !is_reportable(kind, l) {
         return MALFORMED;
     }
-    if MOST_NUMBER <= s.taken {
+    if MOST_NUMBER <= taken {
         return SPENT;
     }
-    if MOST_EXTERNAL <= external_count(s) {
+    if MOST_EXTERNAL <= external_count(events, queued) {
         return QUEUE_FULL;
     }
-    let b = s.beliefs;
     if is_overfull(b, kind, l) {
         return TABLE_FULL;
     }
@@ -124,37 +142,39 @@ fn new_event(number: u16, kind: u16, l: Literal) -> Event
 }
 
 // The report is taken in.
-fn taken_in(s: State, kind: u16, l: Literal) -> Acted
-    requires { ⌜ Reports s ⌝ }
-    ensures { λ r. ⌜ Gives s (takeIn (viewState s) kind l (reportChanges (view (s .beliefs)) kind l)) r ⌝ }
+fn taken_in(b: Beliefs, taken: Number, kind: u16, l: Literal) -> Step
+    requires { ⌜ (b .count ≤ mostBeliefs) × (taken < mostNumber) ⌝ }
+    ensures { λ r. ⌜ TakesIn b taken kind l r ⌝ }
 {
-    let b = s.beliefs;
-    let t = believed(b, kind, l);
-    let number = s.taken + 1;
+    let altered = believed(b, kind, l);
+    let number = taken + 1;
     let event = new_event(number, kind, l);
-    let mut next = queue::with_event(s, event);
-    let table = t.table;
-    next.beliefs = table;
-    next.taken = number;
-    let changes = t.changes;
-    Acted {
-        state: next,
-        result: Answered {
-            answer: Answer::Taken(number),
-            changes: changes,
-            count: t.count,
-        },
+    let stack = step::no_stack();
+    Step {
+        answer: Answer::Taken(number),
+        altered: altered,
+        queue: QueueMove::Enqueue(event),
+        stacks: StackMove::Keep,
+        stack: stack,
+        numbering: Numbering::Taken(number),
     }
 }
 
-// A report, on a state whose counts fit.
-pub(crate) fn report_on(s: State, kind: u16, l: Literal) -> Acted
-    requires { ⌜ Hears s kind l ⌝ }
-    ensures { λ r. ⌜ Gives s (reported (viewState s) kind l) r ⌝ }
+// A report, on the beliefs, the events of which the first `queued` are the queue, and the number of events taken.
+pub(crate) fn report_on(
+    b: Beliefs,
+    events: [Event; MOST_QUEUED],
+    queued: usize,
+    taken: Number,
+    kind: u16,
+    l: Literal,
+) -> Step
+    requires { ⌜ b .count ≤ mostBeliefs ⌝ }
+    ensures { λ r. ⌜ Reports b events queued taken kind l r ⌝ }
 {
-    let refusal = refusal_of(s, kind, l);
+    let refusal = refusal_of(b, events, queued, taken, kind, l);
     if refusal != 0 {
-        return answer::acted(s, Answer::Refused(refusal));
+        return step::no_step(b, Answer::Refused(refusal));
     }
-    taken_in(s, kind, l)
+    taken_in(b, taken, kind, l)
 }

@@ -1,22 +1,18 @@
-// The turn of a stack: first what its top does, then the state changes once.
+// The turn of a stack: what its top does, and the step for it.
 ghost use mathlib.Core.Path.{_≡_};
-ghost use mathlib.Core.List.{[]};
-ghost use Prim.Native.Nat.{_+_, _<_, _≤_};
-ghost use Rattle.belief.specs.Beliefs.{view};
+ghost use Prim.Native.Nat.{_<_, _≤_};
+ghost use Rattle.belief.specs.Beliefs.{mostBeliefs, view};
 ghost use Rattle.library.specs.Layout.{planCount, libraryOf};
-ghost use Rattle.model.specs.State.{mostQueued};
-ghost use Rattle.model.specs.Try.{missed, stepped, done, posted, attempt, tried};
-ghost use Rattle.model.specs.Turn.{nextMove, heightOf, turn};
-ghost use Rattle.state.specs.View.{mostBelow, viewStack, viewState};
-ghost use Rattle.agent.specs.Altered.{changesOf, Alters};
-ghost use Rattle.agent.specs.Trial.{viewTrial, changesBy};
-ghost use Rattle.agent.specs.Turnable.{placed, Standing, Turnable, viewDecision};
-ghost use Rattle.agent.specs.Gives.{Replies};
-ghost use Rattle.agent.specs.View.{stackAt};
-use crate::Acted;
+ghost use Rattle.model.specs.Try.{missed, stepped, done, posted};
+ghost use Rattle.model.specs.Turn.{nextMove};
+ghost use Rattle.state.specs.View.{mostBelow};
+ghost use Rattle.agent.specs.Altered.{changesOf};
+ghost use Rattle.agent.specs.Trial.{viewTrial};
+ghost use Rattle.agent.specs.Turnable.{Runnable, Tried, TriesBranch, Turns, viewDecision};
 use crate::changes::Altered;
 use crate::ends;
 use crate::instance;
+use crate::step::Step;
 use crate::tries;
 use crate::tries::Outcome;
 use crate::tries::Trial;
@@ -30,9 +26,8 @@ use model::Event;
 use model::Instance;
 use model::Origin;
 use model::Status;
+use moves::QueueMove;
 use state::Stack;
-use state::State;
-use state::queue;
 use state::stacks;
 
 // What an instance does at its turn.
@@ -45,9 +40,9 @@ pub enum Decision {
 // ---- What came of a branch
 
 // The branch missed: the instance stays active.
-fn on_missed(s: State, place: usize, stack: Stack, branch: Branch, altered: Altered) -> Acted
-    requires { ⌜ Standing s place × ((stack .depth ≤ mostBelow) × ((stack .top .tried ≤ 4) × Alters (s .beliefs) [] altered)) ⌝ }
-    ensures { λ r. ⌜ Replies (tried (viewState s) (placed place stack) branch missed) r ⌝ }
+fn on_missed(place: usize, stack: Stack, branch: Branch, altered: Altered) -> Step
+    requires { ⌜ (stack .depth ≤ mostBelow) × (stack .top .tried ≤ 4) ⌝ }
+    ensures { λ r. ⌜ Tried place stack branch missed altered r ⌝ }
 {
     let x = stack.top;
     let active = Status::Active;
@@ -58,20 +53,13 @@ fn on_missed(s: State, place: usize, stack: Stack, branch: Branch, altered: Alte
         state: x.state,
         branch: x.tried,
     };
-    ends::turned(s, place, next, answer, altered)
+    ends::turned(place, next, answer, altered, QueueMove::Keep)
 }
 
 // It stepped: the next state, with no branch tried.
-fn on_stepped(
-    s: State,
-    place: usize,
-    stack: Stack,
-    branch: Branch,
-    env: Env,
-    altered: Altered,
-) -> Acted
-    requires { ⌜ Standing s place × ((stack .depth ≤ mostBelow) × Alters (s .beliefs) (changesOf altered) altered) ⌝ }
-    ensures { λ r. ⌜ Replies (tried (viewState s) (placed place stack) branch (stepped env (changesOf altered))) r ⌝ }
+fn on_stepped(place: usize, stack: Stack, branch: Branch, env: Env, altered: Altered) -> Step
+    requires { ⌜ stack .depth ≤ mostBelow ⌝ }
+    ensures { λ r. ⌜ Tried place stack branch (stepped env (changesOf altered)) altered r ⌝ }
 {
     let x = stack.top;
     let top = instance::stepped_to(x, branch.next, env);
@@ -82,20 +70,13 @@ fn on_stepped(
         branch: x.tried,
         next: branch.next,
     };
-    ends::turned(s, place, next, answer, altered)
+    ends::turned(place, next, answer, altered, QueueMove::Keep)
 }
 
 // It is an action: the instance waits for its outcome.
-fn on_done(
-    s: State,
-    place: usize,
-    stack: Stack,
-    branch: Branch,
-    l: Literal,
-    altered: Altered,
-) -> Acted
-    requires { ⌜ Standing s place × ((stack .depth ≤ mostBelow) × ((stack .top .tried ≤ 4) × Alters (s .beliefs) [] altered)) ⌝ }
-    ensures { λ r. ⌜ Replies (tried (viewState s) (placed place stack) branch (done l)) r ⌝ }
+fn on_done(place: usize, stack: Stack, branch: Branch, l: Literal, altered: Altered) -> Step
+    requires { ⌜ (stack .depth ≤ mostBelow) × (stack .top .tried ≤ 4) ⌝ }
+    ensures { λ r. ⌜ Tried place stack branch (done l) altered r ⌝ }
 {
     let x = stack.top;
     let waiting = Status::Waiting;
@@ -107,21 +88,13 @@ fn on_done(
         branch: x.tried,
         literal: l,
     };
-    ends::turned(s, place, next, answer, altered)
+    ends::turned(place, next, answer, altered, QueueMove::Keep)
 }
 
 // It is a goal: the goal joins the queue, and the instance is suspended.
-fn on_posted(
-    s: State,
-    place: usize,
-    stack: Stack,
-    branch: Branch,
-    goal: Literal,
-    altered: Altered,
-) -> Acted
-    requires { ⌜ Standing s place × ((stack .depth ≤ mostBelow) × ((stack .top .tried ≤ 4)
-        × (Alters (s .beliefs) [] altered × (s .queued < mostQueued)))) ⌝ }
-    ensures { λ r. ⌜ Replies (tried (viewState s) (placed place stack) branch (posted goal)) r ⌝ }
+fn on_posted(place: usize, stack: Stack, branch: Branch, goal: Literal, altered: Altered) -> Step
+    requires { ⌜ (stack .depth ≤ mostBelow) × (stack .top .tried ≤ 4) ⌝ }
+    ensures { λ r. ⌜ Tried place stack branch (posted goal) altered r ⌝ }
 {
     let x = stack.top;
     let origin = Origin::Goal {
@@ -135,7 +108,6 @@ fn on_posted(
         literal: goal,
         failed: 0,
     };
-    let queued = queue::with_event(s, event);
     let suspended = Status::Suspended;
     let top = instance::with_try(x, suspended);
     let next = Stack { top: top, ..stack };
@@ -144,43 +116,37 @@ fn on_posted(
         state: x.state,
         branch: x.tried,
     };
-    ends::turned(queued, place, next, answer, altered)
+    ends::turned(place, next, answer, altered, QueueMove::Enqueue(event))
 }
 
-// What the trial of a branch does to the state.
-fn on_trial(s: State, place: usize, stack: Stack, branch: Branch, trial: Trial) -> Acted
-    requires { ⌜ Standing s place × ((stack .depth ≤ mostBelow) × ((stack .top .tried ≤ 4)
-        × (Alters (s .beliefs) (changesBy (viewTrial trial)) (trial .altered)
-        × ((goal : Literal) → viewTrial trial ≡ posted goal → s .queued < mostQueued)))) ⌝ }
-    ensures { λ r. ⌜ Replies (tried (viewState s) (placed place stack) branch (viewTrial trial)) r ⌝ }
+// The step for the trial of a branch.
+fn on_trial(place: usize, stack: Stack, branch: Branch, trial: Trial) -> Step
+    requires { ⌜ (stack .depth ≤ mostBelow) × (stack .top .tried ≤ 4) ⌝ }
+    ensures { λ r. ⌜ Tried place stack branch (viewTrial trial) (trial .altered) r ⌝ }
 {
     let altered = trial.altered;
     let outcome = trial.outcome;
     match outcome {
-        Outcome::Missed => on_missed(s, place, stack, branch, altered),
+        Outcome::Missed => on_missed(place, stack, branch, altered),
         Outcome::Stepped => {
             let env = trial.env;
-            on_stepped(s, place, stack, branch, env, altered)
+            on_stepped(place, stack, branch, env, altered)
         }
-        Outcome::Done(l) => on_done(s, place, stack, branch, l, altered),
-        Outcome::Posted(goal) => on_posted(s, place, stack, branch, goal, altered),
+        Outcome::Done(l) => on_done(place, stack, branch, l, altered),
+        Outcome::Posted(goal) => on_posted(place, stack, branch, goal, altered),
     }
 }
 
 // The next branch of the top of a stack.
-fn try_branch(s: State, place: usize, stack: Stack, branch: Branch) -> Acted
-    requires { ⌜ Standing s place × ((stack .depth ≤ mostBelow) × ((stack .top .tried ≤ 4)
-        × ((goal : Literal) → attempt (view (s .beliefs)) (heightOf (viewStack stack)) (stack .top .env) branch ≡ posted goal
-        → s .queued < mostQueued))) ⌝ }
-    ensures { λ r. ⌜ Replies (tried (viewState s) (placed place stack) branch
-        (attempt (view (s .beliefs)) (heightOf (viewStack stack)) (stack .top .env) branch)) r ⌝ }
+fn try_branch(b: Beliefs, place: usize, stack: Stack, branch: Branch) -> Step
+    requires { ⌜ (b .count ≤ mostBeliefs) × ((stack .depth ≤ mostBelow) × (stack .top .tried ≤ 4)) ⌝ }
+    ensures { λ r. ⌜ TriesBranch b place stack branch r ⌝ }
 {
     let x = stack.top;
     let env = x.env;
-    let b = s.beliefs;
     let height = stacks::depth_of(stack) + 1;
     let trial = tries::attempt(b, height, env, branch);
-    on_trial(s, place, stack, branch, trial)
+    on_trial(place, stack, branch, trial)
 }
 
 // ---- The turn
@@ -207,18 +173,16 @@ fn next_move(library: &[u8], b: Beliefs, x: Instance) -> Decision
     Decision::Attempt(branch)
 }
 
-// The stack at the place has its turn.
-pub(crate) fn turn(library: &[u8], s: State, place: usize) -> Acted
-    requires { ⌜ Turnable (now library) s place (stackAt s place) ⌝ }
-    ensures { λ r. ⌜ Replies (turn (libraryOf (now (library .entry))) (viewState s) (placed place (stackAt s place))) r ⌝ }
+// The turn of the stack at a place.
+pub(crate) fn turn(library: &[u8], b: Beliefs, place: usize, stack: Stack) -> Step
+    requires { ⌜ Runnable (now library) b stack ⌝ }
+    ensures { λ r. ⌜ Turns (now (library .entry)) b place stack r ⌝ }
 {
-    let stack = s.stacks[place];
     let x = stack.top;
-    let b = s.beliefs;
     let decision = next_move(library, b, x);
     match decision {
-        Decision::Fail => ends::fail(library, s, place, stack),
-        Decision::Succeed => ends::succeed(library, s, place, stack),
-        Decision::Attempt(branch) => try_branch(s, place, stack, branch),
+        Decision::Fail => ends::fail(library, b, place, stack),
+        Decision::Succeed => ends::succeed(library, b, place, stack),
+        Decision::Attempt(branch) => try_branch(b, place, stack, branch),
     }
 }

@@ -1,4 +1,3 @@
-pub mod QueueSteps
 pub mod StackSteps
 pub mod ViewLaws
 pub mod SearchSteps

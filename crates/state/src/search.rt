@@ -1,16 +1,17 @@
 // Who serves what, and what comes next: each search answers a place, the count where there is none.
 ghost use mathlib.Core.Path.{_≡_};
 ghost use mathlib.Core.Bool.{_||_};
-ghost use Prim.Native.Nat.{_<_};
+ghost use mathlib.Core.List.{map};
+ghost use Prim.Native.Nat.{_<_, min};
 ghost use lib.ListN.{length, take};
 ghost use lib.Dec.{ltb};
 ghost use Rattle.lists.specs.Search.{any, position};
-ghost use Rattle.model.specs.Live.{isGoal, isOf, jobsOf, live, serves, isReady, isPoster};
+ghost use Rattle.model.specs.Live.{isGoal, jobsOf, live, serves, isReady, isPoster};
 ghost use Rattle.model.specs.State.{mostStacks};
 ghost use Rattle.model.specs.Turn.{isRunning};
 ghost use Rattle.model.specs.Outcome.{isAwaiting};
 ghost use Rattle.state.specs.View.{depthOf, viewStack, viewQueue, viewStacks};
-ghost use Rattle.state.specs.Search.{hasGoal};
+ghost use Rattle.state.specs.Search.{hasGoal, isAsleep};
 use crate::MOST_STACKS;
 use crate::Stack;
 use crate::State;
@@ -84,23 +85,6 @@ pub fn next_event(s: State) -> usize
     i
 }
 
-// The event of this origin.
-pub fn event_place(s: State, origin: Origin) -> usize
-    ensures { λ r. ⌜ r ≡ position (isOf origin) (viewQueue s) ⌝ }
-{
-    let n = queue::queued_of(s);
-    let mut i: usize = 0;
-    while i < n {
-        let event = s.queue[i];
-        let other = event.origin;
-        if origin::same_origin(origin, other) {
-            return i;
-        }
-        i += 1;
-    }
-    i
-}
-
 fn is_running(stack: Stack) -> bool
     ensures { λ r. ⌜ r ≡ isRunning (viewStack stack) ⌝ }
 {
@@ -109,20 +93,69 @@ fn is_running(stack: Stack) -> bool
     origin::is_active(status)
 }
 
-// The first stack whose top is active.
-pub fn next_stack(s: State) -> usize
-    ensures { λ r. ⌜ r ≡ position isRunning (viewStacks s) ⌝ }
+// How many of the stacks are in use.
+fn in_use(stacked: usize) -> usize
+    ensures { λ r. ⌜ r ≡ min stacked mostStacks ⌝ }
 {
-    let n = stacks::stacked_of(s);
+    if stacked < MOST_STACKS {
+        return stacked;
+    }
+    MOST_STACKS
+}
+
+// The first stack whose top is active.
+pub fn next_stack(stacks: [Stack; MOST_STACKS], stacked: usize) -> usize
+    ensures { λ r. ⌜ r ≡ position isRunning (map viewStack (take (min stacked mostStacks) stacks)) ⌝ }
+{
+    let n = in_use(stacked);
     let mut i: usize = 0;
     while i < n {
-        let stack = s.stacks[i];
+        let stack = stacks[i];
         if is_running(stack) {
             return i;
         }
         i += 1;
     }
     i
+}
+
+fn is_asleep(stack: Stack) -> bool
+    ensures { λ r. ⌜ r ≡ isAsleep (viewStack stack) ⌝ }
+{
+    let top = stack.top;
+    let status = top.status;
+    origin::is_suspended(status)
+}
+
+// Whether some top is suspended.
+pub fn has_sleeper(stacks: [Stack; MOST_STACKS], stacked: usize) -> bool
+    ensures { λ r. ⌜ r ≡ any isAsleep (map viewStack (take (min stacked mostStacks) stacks)) ⌝ }
+{
+    let n = in_use(stacked);
+    let mut i: usize = 0;
+    while i < n {
+        let stack = stacks[i];
+        i += 1;
+        if is_asleep(stack) {
+            return true;
+        }
+    }
+    false
+}
+
+// How many instances are live.
+pub fn live_count(stacks: [Stack; MOST_STACKS], stacked: usize) -> usize
+    ensures { λ r. ⌜ r ≡ length (live (map viewStack (take (min stacked mostStacks) stacks))) ⌝ }
+{
+    let n = in_use(stacked);
+    let mut found: usize = 0;
+    let mut i: usize = 0;
+    while i < n {
+        let stack = stacks[i];
+        i += 1;
+        found += stacks::depth_of(stack) + 1;
+    }
+    found
 }
 
 fn is_awaiting(id: Number, stack: Stack) -> bool
@@ -137,13 +170,13 @@ fn is_awaiting(id: Number, stack: Stack) -> bool
 }
 
 // The stack whose top has this id and waits for an outcome.
-pub fn waiting_place(s: State, id: Number) -> usize
-    ensures { λ r. ⌜ r ≡ position (isAwaiting id) (viewStacks s) ⌝ }
+pub fn waiting_place(stacks: [Stack; MOST_STACKS], stacked: usize, id: Number) -> usize
+    ensures { λ r. ⌜ r ≡ position (isAwaiting id) (map viewStack (take (min stacked mostStacks) stacks)) ⌝ }
 {
-    let n = stacks::stacked_of(s);
+    let n = in_use(stacked);
     let mut i: usize = 0;
     while i < n {
-        let stack = s.stacks[i];
+        let stack = stacks[i];
         if is_awaiting(id, stack) {
             return i;
         }
@@ -164,14 +197,14 @@ fn is_poster(origin: Origin, stack: Stack) -> bool
     origin::same_origin(origin, goal)
 }
 
-// The stack whose top posted this goal.
-pub fn poster_place(s: State, origin: Origin) -> usize
-    ensures { λ r. ⌜ r ≡ position (isPoster origin) (viewStacks s) ⌝ }
+// The stack whose top posted this goal, of the first `stacked`.
+pub fn poster_place(stacks: [Stack; MOST_STACKS], stacked: usize, origin: Origin) -> usize
+    ensures { λ r. ⌜ r ≡ position (isPoster origin) (map viewStack (take (min stacked mostStacks) stacks)) ⌝ }
 {
-    let n = stacks::stacked_of(s);
+    let n = in_use(stacked);
     let mut i: usize = 0;
     while i < n {
-        let stack = s.stacks[i];
+        let stack = stacks[i];
         if is_poster(origin, stack) {
             return i;
         }

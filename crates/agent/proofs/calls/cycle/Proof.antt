@@ -5,14 +5,14 @@ use Rattle.agent.proofs.CallsLaws.{calls-agent}
 use Rattle.agent.proofs.calls.cycle.Statement.{statement}
 use Rattle.agent.proofs.calls.cycle.Tie as tie
 
-cycle-with-requires : tie.Need-cycle-with-requires
-cycle-with-requires c κs = search needs
+respond-requires : tie.Need-respond-requires
+respond-requires c κs = search needs
 
 replied-requires : tie.Need-replied-requires
 replied-requires c κs = search needs
 
 returns : tie.Need-returns
-returns c = let a = (c .before .before .before .before .before .before .args) in calls-agent (a .t1) cycle ((c .before .cycle-with) .result) ((c .before .cycle-with) .ensures) ((c .replied) .result) ((c .replied) .ensures)
+returns c = let a = (c .before .before .before .before .before .before .args) in calls-agent (a .t1) (cycle) ((c .before .respond) .result) ((c .before .respond) .ensures) ((c .replied) .result) ((c .replied) .ensures)
 
 pub cycle-spec : {M : Type 1} → statement M
-cycle-spec = tie.close (tie.spec cycle-with-requires replied-requires returns)
+cycle-spec = tie.close (tie.spec respond-requires replied-requires returns)

@@ -5,14 +5,14 @@ use Rattle.agent.proofs.CallsLaws.{calls-agent}
 use Rattle.agent.proofs.calls.outcome.Statement.{statement}
 use Rattle.agent.proofs.calls.outcome.Tie as tie
 
-outcome-for-requires : tie.Need-outcome-for-requires
-outcome-for-requires c κs = search needs
+respond-requires : tie.Need-respond-requires
+respond-requires c κs = search needs
 
 replied-requires : tie.Need-replied-requires
 replied-requires c κs = search needs
 
 returns : tie.Need-returns
-returns c = let a = (c .before .before .before .before .before .before .args) in calls-agent (a .t1) (outcome (a .id) (a .worked)) ((c .before .outcome-for) .result) ((c .before .outcome-for) .ensures) ((c .replied) .result) ((c .replied) .ensures)
+returns c = let a = (c .before .before .before .before .before .before .args) in calls-agent (a .t1) (outcome (a .id) (a .worked)) ((c .before .respond) .result) ((c .before .respond) .ensures) ((c .replied) .result) ((c .replied) .ensures)
 
 pub outcome-spec : {M : Type 1} → statement M
-outcome-spec = tie.close (tie.spec outcome-for-requires replied-requires returns)
+outcome-spec = tie.close (tie.spec respond-requires replied-requires returns)

@@ -1,24 +1,24 @@
 -- `agent::ends::succeed` meets its contract: the list runs, the event is closed, and the poster below steps past its goal.
 use borrow.Author.Needs.{needs}
-use native.Mathlib.Omega.{arith}
 use denote.Ref.{now}
-use mathlib.Core.Path.{_≡_, refl}
+use mathlib.Core.Path.{refl, subst⁻¹, _∙_}
+use Rattle.belief.specs.declared.Beliefs.{Beliefs}
 use Rattle.belief.specs.Beliefs.{view}
 use Rattle.library.specs.Layout.{planCount, libraryOf}
 use Rattle.library.specs.Layout as layout
 use Rattle.accepted.proofs.RuleFacts.{few-actions}
-use Rattle.accepted.proofs.Accepted.{few-plans, keeps}
-use Rattle.model.specs.Changes.{effects}
+use Rattle.accepted.proofs.Accepted.{keeps}
 use Rattle.model.specs.declared.Answer.the-variants.{Succeeded}
+use Rattle.model.specs.Changes.{effects}
 use Rattle.model.specs.Instance.{planOf, pastBranch}
-use Rattle.model.specs.End.{servedBy, closeEvent, popped, endTop, succeed}
-use Rattle.state.specs.View.{viewStack, viewQueue, viewState}
+use Rattle.model.specs.End.{closeEvent, popped, endTop, succeed}
+use Rattle.state.specs.View.{viewStack, viewQueue}
 use Rattle.jobs.proofs.PlaceLaws.{plan-there}
+use Rattle.moves.specs.declared.QueueMove.the-variants as queue
+use Rattle.moves.specs.Moves.{requeue}
 use Rattle.agent.specs.Altered.{Alters}
-use Rattle.model.specs.State.{requeued}
-use Rattle.state.proofs.CountParts.{counts-parts}
 use Rattle.agent.proofs.GivesLaws.{replies-as}
-use Rattle.agent.proofs.TurnLaws.{ended-after}
+use Rattle.agent.proofs.TurnLaws.{close-requeues, ended-after}
 use Rattle.agent.proofs.ends.succeed.Statement.{statement}
 use Rattle.agent.proofs.ends.succeed.Tie as tie
 
@@ -27,41 +27,32 @@ cast-list-run c = search needs
 
 list-run-requires : tie.Need-list-run-requires
 list-run-requires c κs =
-    let a = (c .before .before .before .before .before .args) in
+    let a = (c .before .before .before .before .args) in
     let plan = a .stack .top .plan in
     let bytes = now (a .library) in
-    (few-actions (layout.planOf bytes plan .success) (keeps bytes ((c .before .before .before .before .before .pre) .accepted) plan ((c .before .before .before .before .before .pre) .plan) .success), counts-parts (a .s) ((c .before .before .before .before .before .pre) .standing .counts) .beliefs)
+    (few-actions (layout.planOf bytes plan .success) (keeps bytes ((c .before .before .before .before .pre) .accepted) plan ((c .before .before .before .before .pre) .plan) .success), (c .before .before .before .before .pre) .few)
 
 served-by-requires : tie.Need-served-by-requires
 served-by-requires c κs = search needs
 
-settled-requires : tie.Need-settled-requires
-settled-requires c κs = ((c .before .before .before .before .before .before .before .pre) .standing, omega (arith, few-plans (now ((c .before .before .before .before .before .before .before .args) .library)) ((c .before .before .before .before .before .before .before .pre) .accepted), (c .before .before .before .before .before .before .before .pre) .plan))
-
 raised-requires : tie.Need-raised-requires
-raised-requires c κs = ((c .settled) .ensures .standing, (c .before .before .list-run) .ensures .few)
+raised-requires c κs = search needs
 
 returns : tie.Need-returns
 unfolding succeed endTop
-returns c =
-    let a = (c .before .before .before .before .before .before .before .before .before .args) in
+returns c = λ s e stands.
+    let a = (c .before .before .before .before .before .before .before .args) in
     let x = a .stack .top in
     let bytes = now (a .library) in
     let actions = planOf (libraryOf bytes) x .success in
-    let queue = closeEvent (servedBy (viewStack (a .stack))) (viewQueue (a .s)) in
-    let alters : Alters (a .s .beliefs) (effects (view (a .s .beliefs)) (x .env) actions) ((c .before .before .before .list-run) .result) = rw (plan-there bytes x (planCount bytes) refl ((c .before .before .before .before .before .before .before .before .before .pre) .plan)) ((c .before .before .before .list-run) .ensures) in
-    let shown : viewState ((c .before .settled) .result) ≡ requeued (viewState (a .s)) queue = rw ((c .before .before .served-by) .ensures) at ((c .before .settled) .ensures .shown) in
-    replies-as (ended-after (a .s) ((c .before .settled) .result) (a .place) (a .stack) (popped (a .stack .external) (pastBranch (libraryOf bytes)) (viewStack (a .stack) .below)) (Succeeded (x .id))
-    (effects (view (a .s .beliefs)) (x .env) actions) queue ((c .before .before .before .list-run) .result) alters shown)
-    ((c .raised) .ensures)
+    let alters : Alters (a .b) (effects (view (a .b)) (x .env) actions) ((c .before .before .list-run) .result) = rw (plan-there bytes x (planCount bytes) refl ((c .before .before .before .before .before .before .before .pre) .plan)) ((c .before .before .list-run) .ensures) in
+    let here = subst⁻¹ (λ (b : Beliefs). Alters b (effects (view b) (x .env) actions) ((c .before .before .list-run) .result)) e alters in
+    let q = close-requeues s (a .place) stands ((c .before .served-by) .result) in
+    replies-as (ended-after s (requeue (queue.Close ((c .before .served-by) .result)) s) (a .place) (a .stack) (popped (a .stack .external) (pastBranch (libraryOf bytes)) (viewStack (a .stack) .below)) (Succeeded (x .id))
+    (effects (view (s .beliefs)) (x .env) actions) (closeEvent ((c .before .served-by) .result) (viewQueue s)) ((c .before .before .list-run) .result) here (q .shown)
+    ∙ rw ((c .before .served-by) .ensures))
+    ((c .raised) .ensures s (q .standing) (here .few))
 
 pub succeed-spec : {M : Type 1} → statement M
 succeed-spec =
-    tie.close
-    (tie.spec
-    cast-list-run
-    list-run-requires
-    served-by-requires
-    settled-requires
-    raised-requires
-    returns)
+    tie.close (tie.spec cast-list-run list-run-requires served-by-requires raised-requires returns)

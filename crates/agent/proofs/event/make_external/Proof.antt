@@ -1,14 +1,16 @@
 -- `agent::event::make_external` meets its contract: the new stack is last, and the instance made is counted.
 use borrow.Author.Needs.{needs}
-use mathlib.Core.Path.{_≡_}
-use lib.ListN.{length}
-use Rattle.lists.proofs.ArrayLaws.{length-mapped}
-use Rattle.agent.proofs.EventLaws.{made-external}
+use mathlib.Core.Path.{ap, _∙_}
+use Rattle.model.specs.declared.Answer.the-variants.{MadeExternal}
+use Rattle.model.specs.declared.Instance.{Instance}
+use Rattle.moves.specs.declared.QueueMove.the-variants as queue
+use Rattle.moves.specs.declared.StackMove.the-variants as stacks
+use Rattle.moves.specs.declared.Numbering.the-variants as numbering
+use Rattle.state.specs.declared.Stack.{Stack}
+use Rattle.agent.specs.Step.{plainStep}
+use Rattle.agent.specs.TakeUp.{openedStack}
 use Rattle.agent.proofs.event.make_external.Statement.{statement}
 use Rattle.agent.proofs.event.make_external.Tie as tie
-
-len : (c : tie.Start) → length (c .args .s .stacks) ≡ 8
-len c = search (needs, length-mapped)
 
 new-instance-requires : tie.Need-new-instance-requires
 new-instance-requires c κs = search needs
@@ -16,24 +18,17 @@ new-instance-requires c κs = search needs
 new-stack-requires : tie.Need-new-stack-requires
 new-stack-requires c κs = search needs
 
-with-stack-requires : tie.Need-with-stack-requires
-with-stack-requires c κs = search needs
-
-acted-requires : tie.Need-acted-requires
-acted-requires c κs = search needs
+plain-step-requires : tie.Need-plain-step-requires
+plain-step-requires c κs = search needs
 
 returns : tie.Need-returns
 returns c =
-    let start = c .before .before .before .before .before .before .before in
-    let a = start .args in
-    let x = c .before .before .before .before .before .before .new-instance in
-    let stack = c .before .before .before .before .before .new-stack in
-    let next = c .before .before .before .before .with-stack in
-    let r = c .acted in
-    made-external (a .s) (record { plan = a .plan; env = a .env }) (x .result) (stack .result) (next .result) (r .result)
-    (start .pre .0) (len start) (x .ensures) (stack .ensures .1) (a .external) (stack .ensures .0) (next .ensures) (r .ensures) (start .pre .1)
+    let a = (c .before .before .before .args) in
+    let x = (c .before .before .new-instance) .result in
+    (c .plain-step) .ensures
+    ∙ ap (λ (k : Stack). plainStep (a .b) (MadeExternal (x .id) (a .plan) (a .external)) queue.Keep stacks.Open k (numbering.Made (x .id))) ((c .before .new-stack) .ensures)
+    ∙ ap (λ (y : Instance). plainStep (a .b) (MadeExternal (y .id) (a .plan) (a .external)) queue.Keep stacks.Open (openedStack (a .external) y) (numbering.Made (y .id))) ((c .before .before .new-instance) .ensures)
 
 pub make-external-spec : {M : Type 1} → statement M
 make-external-spec =
-    tie.close
-    (tie.spec new-instance-requires new-stack-requires with-stack-requires acted-requires returns)
+    tie.close (tie.spec new-instance-requires new-stack-requires plain-step-requires returns)

@@ -1,17 +1,16 @@
 -- `agent::event::take_up` meets its contract: the choice decides, then the count of instances made.
 use borrow.Author.Needs.{needs}
-use mathlib.Core.Path.{refl}
 use denote.Ref.{now}
-use Rattle.agent.specs.View.{eventAt}
+use Prim.Native.Nat.{ℕ, _<_, _≤_}
+use mathlib.Core.Path.{_≡_, refl, subst⁻¹}
+use Rattle.belief.specs.declared.Beliefs.{Beliefs}
+use Rattle.belief.specs.Beliefs.{view}
+use Rattle.library.specs.Layout.{libraryOf}
+use Rattle.situation.specs.Applicable.{choose}
+use Rattle.situation.specs.Selected.{chosenOf}
 use Rattle.agent.proofs.TakeUpLaws.{closed, refused, made}
 use Rattle.agent.proofs.event.take_up.Statement.{statement}
 use Rattle.agent.proofs.event.take_up.Tie as tie
-
-mul-event : tie.Need-mul-event
-mul-event c = search needs
-
-element-copy-out-event : tie.Need-element-copy-out-event
-element-copy-out-event c = search needs
 
 choose-plan-requires : tie.Need-choose-plan-requires
 choose-plan-requires c κs = search needs
@@ -26,48 +25,43 @@ close-event-requires : tie.Need-close-event-requires
 close-event-requires c κs = search needs
 
 returns : tie.Need-returns
-returns c =
-    let a = c .before .before .before .before .before .before .before .args in
-    let selected = c .before .before .before .choose-plan in
-    let r = c .close-event in
-    closed (a .t2) (a .place) (now (a .library)) (eventAt (a .t2) (a .place)) (selected .result) (r .result) refl (selected .ensures .0)
-    ((c .before .enum-told) .given .1) (r .ensures)
+returns c = λ s h.
+    let a = (c .before .before .before .before .before .args) in
+    let e = a .event in
+    let chose = subst⁻¹ (λ (b : Beliefs). chosenOf ((c .before .before .before .choose-plan) .result) ≡ choose (view b) (e .kind) (e .literal) (e .failed) (libraryOf (now (a .library)) .plans)) (h .beliefs-are) ((c .before .before .before .choose-plan) .ensures .0) in
+    closed s (a .place) (now (a .library)) e ((c .before .before .before .choose-plan) .result) _ chose ((c .before .enum-told) .given .1)
+    ((c .close-event) .ensures s (record { sized = h .sized; fit = h .fit; beliefs-are = h .beliefs-are; made-is = refl; stacks-are = h .stacks-are; stacked-is = h .stacked-is }))
 
-acted-requires : tie.Need-acted-requires
-acted-requires c κs = search needs
+no-step-requires : tie.Need-no-step-requires
+no-step-requires c κs = search needs
 
 returns-2 : tie.Need-returns-2
-returns-2 c =
-    let start = c .before .before .before .before .before .before .before .before .before in
-    let a = start .args in
-    let selected = c .before .before .before .before .before .choose-plan in
-    let r = c .acted in
-    refused (a .t2) (a .place) (now (a .library)) (eventAt (a .t2) (a .place)) (selected .result) (r .result) refl (selected .ensures .0)
-    _ ((c .before .before .before .choice) .given .1) ((c .before .if1) .taken) (start .pre .event .fit) (r .ensures)
+returns-2 c = λ s h.
+    let a = (c .before .before .before .before .before .before .before .args) in
+    let e = a .event in
+    let chose = subst⁻¹ (λ (b : Beliefs). chosenOf ((c .before .before .before .before .before .choose-plan) .result) ≡ choose (view b) (e .kind) (e .literal) (e .failed) (libraryOf (now (a .library)) .plans)) (h .beliefs-are) ((c .before .before .before .before .before .choose-plan) .ensures .0) in
+    refused s (a .place) (now (a .library)) e ((c .before .before .before .before .before .choose-plan) .result) _ chose _ ((c .before .before .before .choice) .given .1) (subst⁻¹ (λ (m : ℕ). 65535 ≤ m) (h .made-is) ((c .before .if1) .taken)) (h .fit) ((c .no-step) .ensures s (h .beliefs-are))
 
 make-event-requires : tie.Need-make-event-requires
 make-event-requires c κs = search needs
 
 returns-3 : tie.Need-returns-3
-returns-3 c =
-    let a = c .before .before .before .before .before .before .before .before .before .before .args in
-    let selected = c .before .before .before .before .before .before .choose-plan in
-    let r = c .make-event in
-    made (a .t2) (a .place) (now (a .library)) (eventAt (a .t2) (a .place)) (selected .result) (r .result) refl (selected .ensures .0)
-    _ ((c .before .before .before .before .choice) .given .1) ((c .before .before .if1) .left) (r .ensures)
+returns-3 c = λ s h.
+    let a = (c .before .before .before .before .before .before .before .before .args) in
+    let e = a .event in
+    let chose = subst⁻¹ (λ (b : Beliefs). chosenOf ((c .before .before .before .before .before .before .choose-plan) .result) ≡ choose (view b) (e .kind) (e .literal) (e .failed) (libraryOf (now (a .library)) .plans)) (h .beliefs-are) ((c .before .before .before .before .before .before .choose-plan) .ensures .0) in
+    made s (a .place) (now (a .library)) e ((c .before .before .before .before .before .before .choose-plan) .result) _ chose _ ((c .before .before .before .before .choice) .given .1) (subst⁻¹ (λ (m : ℕ). m < 65535) (h .made-is) ((c .before .before .if1) .left)) ((c .make-event) .ensures s h)
 
 pub take-up-spec : {M : Type 1} → statement M
 take-up-spec =
     tie.close
     (tie.spec
-    mul-event
-    element-copy-out-event
     choose-plan-requires
     enum-known-choice
     enum-told
     close-event-requires
     returns
-    acted-requires
+    no-step-requires
     returns-2
     make-event-requires
     returns-3)

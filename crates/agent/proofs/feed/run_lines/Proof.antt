@@ -1,15 +1,23 @@
 -- `agent::feed::run_lines` meets its contract. The loop's invariant: what is read was run and printed, and what is trusted of the state still holds.
 use borrow.Author.Needs.{needs}
 use native.Mathlib.Omega.{arith}
-use Prim.Native.Nat.{_-_, _≤_}
-use mathlib.Core.Path.{_≡_, refl, ap, sym, _∙_}
+use Prim.Native.Nat.{_+_, _-_, _≤_}
+use mathlib.Core.Path.{_≡_, refl, ap, sym, subst, subst⁻¹, _∙_}
+use mathlib.Core.Logic.{⊎-elim}
 use lib.ListN.{length}
+use Rattle.state.proofs.CountParts.{counts-parts}
+use Rattle.printing.specs.LineText.{mostLine}
 use Rattle.stream.specs.Calls.{shown}
 use Rattle.stream.proofs.ChunkLaws.{line-moves}
-use Rattle.agent.specs.View.{plainly}
+use Rattle.moves.specs.Moves.{requeue}
+use Rattle.agent.specs.View.{plainly, stackAt}
+use Rattle.agent.specs.Step.{applied}
 use Rattle.agent.specs.Feed.{Trusted, Progress}
-use Rattle.agent.proofs.FeedLaws.{responds-as, trusted-next}
-use Rattle.agent.proofs.ProgressLaws.{progress-start, progress-line, progress-used}
+use Rattle.agent.specs.Look.{Looked}
+use Rattle.agent.proofs.FeedLaws.{trusted-next}
+use Rattle.agent.proofs.LookLaws.{place-low}
+use Rattle.agent.proofs.StepLaws.{queue-moved, queue-kept, parts-after}
+use Rattle.agent.proofs.ProgressLaws.{written-within, progress-as, progress-start, progress-line, progress-used}
 use Rattle.agent.proofs.feed.run_lines.Statement.{statement}
 use Rattle.agent.proofs.feed.run_lines.Tie as tie
 
@@ -68,41 +76,87 @@ no-line-requires : tie.Need-no-line-requires Inv-loop μ-loop
 no-line-requires c κs = search needs
 
 look-at-requires : tie.Need-look-at-requires Inv-loop μ-loop
-look-at-requires c κs = search needs
+look-at-requires c κs = λ e. counts-parts _ ((c .before .before .before .before .before .before .before .loop) .inv .3 e .fit) .stacked
 
-enum-known-answer : tie.Need-enum-known-answer Inv-loop μ-loop
-enum-known-answer c = search needs
+enum-known-look : tie.Need-enum-known-look Inv-loop μ-loop
+enum-known-look c = search needs
 
-enum-told-2 : tie.Need-enum-told-2 Inv-loop μ-loop
-enum-told-2 c = search needs
+place-of-requires : tie.Need-place-of-requires Inv-loop μ-loop
+place-of-requires c κs = search needs
+
+mul-top : tie.Need-mul-top Inv-loop μ-loop
+mul-top c =
+    let low = place-low _ _ _ _ ((c .before .before .look-at) .result) ((c .before .before .before .before .before .before .before .before .before .before .loop) .inv .3) ((c .before .before .look-at) .ensures) in
+    let at = (c .place-of) .ensures in
+    search needs
+
+element-copy-out-top : tie.Need-element-copy-out-top Inv-loop μ-loop
+element-copy-out-top c =
+    let low = place-low _ _ _ _ ((c .before .before .look-at) .result) ((c .before .before .before .before .before .before .before .before .before .before .loop) .inv .3) ((c .before .before .look-at) .ensures) in
+    let at = (c .place-of) .ensures in
+    search needs
 
 act-requires : tie.Need-act-requires Inv-loop μ-loop
-act-requires c κs = (c .before .before .before .before .before .before .before .before .before .before .loop) .inv .3 (rw ((c .enum-told2) .given .1) at ((c .before .before .look-at) .ensures))
+act-requires c κs = ((c .before .before .before .before .before .before .before .before .before .before .before .loop) .inv .3, ((c .before .before .before .look-at) .ensures, ap (stackAt ((c .before .before .before .before .before .before .before .before .before .before .before .loop) .state)) ((c .before .place-of) .ensures)))
+
+result-of-requires : tie.Need-result-of-requires Inv-loop μ-loop
+result-of-requires c κs = search needs
 
 print-result-requires : tie.Need-print-result-requires Inv-loop μ-loop
 print-result-requires c κs = search needs
 
+moves-queue-requires : tie.Need-moves-queue-requires Inv-loop μ-loop
+moves-queue-requires c κs = search needs
+
+place-in-requires : tie.Need-place-in-requires Inv-loop μ-loop
+place-in-requires c κs = search needs
+
+events-after-requires : tie.Need-events-after-requires Inv-loop μ-loop
+events-after-requires c κs = search needs
+
+queued-after-requires : tie.Need-queued-after-requires Inv-loop μ-loop
+queued-after-requires c κs = search needs
+
+stacks-after-requires : tie.Need-stacks-after-requires Inv-loop μ-loop
+stacks-after-requires c κs = search needs
+
+stacked-after-requires : tie.Need-stacked-after-requires Inv-loop μ-loop
+stacked-after-requires c κs = search needs
+
+taken-after-requires : tie.Need-taken-after-requires Inv-loop μ-loop
+taken-after-requires c κs = search needs
+
+made-after-requires : tie.Need-made-after-requires Inv-loop μ-loop
+made-after-requires c κs = search needs
+
 loop-less : tie.Need-loop-less Inv-loop μ-loop
 loop-less c =
-    let l = (c .before .before .before .before .before .before .before .before .before .before .before .before .before .before .before .before .before .loop) in
-    let g = (c .before .before .before .before .before .before .before .before .before .before .before .before .call) .given in
-    let moves = line-moves _ (l .read) (l .held) (g .0 .0) (g .0 .1 .0) (sym (ap shown (g .1)) ∙ (c .before .before .before .before .before .before .before .before .before .before .before .before .before .before .next-line) .ensures) in
+    let l = (c .before .before .before .before .before .before .before .before .before .before .before .before .before .before .before .before .before .before .before .before .before .before .before .before .before .before .before .loop) in
+    let g = (c .before .before .before .before .before .before .before .before .before .before .before .before .before .before .before .before .before .before .before .before .before .before .call) .given in
+    let moves = line-moves _ (l .read) (l .held) (g .0 .0) (g .0 .1 .0) (sym (ap shown (g .1)) ∙ (c .before .before .before .before .before .before .before .before .before .before .before .before .before .before .before .before .before .before .before .before .before .before .before .before .next-line) .ensures) in
     omega (arith, moves .0, moves .1)
 
 loop-again : tie.Need-loop-again Inv-loop μ-loop
 loop-again c =
-    let l = (c .before .before .before .before .before .before .before .before .before .before .before .before .before .before .before .before .before .loop) in
-    let g = (c .before .before .before .before .before .before .before .before .before .before .before .before .call) .given in
-    let told = sym (ap shown (g .1)) ∙ (c .before .before .before .before .before .before .before .before .before .before .before .before .before .before .next-line) .ensures in
+    let l = (c .before .before .before .before .before .before .before .before .before .before .before .before .before .before .before .before .before .before .before .before .before .before .before .before .before .before .before .loop) in
+    let g = (c .before .before .before .before .before .before .before .before .before .before .before .before .before .before .before .before .before .before .before .before .before .before .call) .given in
+    let told = sym (ap shown (g .1)) ∙ (c .before .before .before .before .before .before .before .before .before .before .before .before .before .before .before .before .before .before .before .before .before .before .before .before .next-line) .ensures in
     let moves = line-moves _ (l .read) (l .held) (g .0 .0) (g .0 .1 .0) told in
-    let w = (c .before .before .print-result) .ensures .line (omega arith) in
-    let kept = (c .before .before .print-result) .kept .0 in
-    let h = responds-as _ _ (rw ((c .before .before .before .before .before .before .before .enum-told2) .given .1) at ((c .before .before .before .before .before .before .before .before .before .look-at) .ensures)) _ ((c .before .before .before .before .before .before .act) .result) ((c .before .before .before .before .before .before .act) .ensures) in (
+    let t = (c .before .before .before .before .before .before .before .before .before .before .before .before .before .before .before .act) .result in
+    let queued : (c .before .before .before .before .before .before .before .before .if2) .state ≡ requeue (t .queue) (l .state)
+    = ⊎-elim (λ w. w .5 ∙ queue-moved (t .queue) (l .state) (w .2 .result) (w .3 .result) (w .4 .result) (w .2 .ensures) (w .3 .ensures) (w .4 .ensures))
+    (λ w. w .1 ∙ queue-kept (t .queue) (l .state) (sym ((c .before .before .before .before .before .before .before .before .before .moves-queue) .ensures) ∙ w .0 .left)) ((c .before .before .before .before .before .before .before .before .if2) .came) in
+    let after = parts-after t (l .state) ((c .before .before .before .before .before .before .before .before .if2) .state) queued ((c .before .before .before .before .before .stacks-after) .result) ((c .before .before .before .before .stacked-after) .result) ((c .before .before .before .taken-after) .result) ((c .before .before .made-after) .result)
+    ((c .before .before .before .before .before .stacks-after) .ensures) ((c .before .before .before .before .stacked-after) .ensures) ((c .before .before .before .taken-after) .ensures) ((c .before .before .made-after) .ensures) _ refl in
+    let room : l .wrote + mostLine ≤ length (l .out) = omega (arith, (c .before .before .before .before .before .before .before .before .before .before .before .before .before .before .before .before .before .before .before .before .before .before .before .before .before .if1) .left, l .inv .1) in
+    let w = rw ((c .before .before .before .before .before .before .before .before .before .before .before .before .before .before .result-of) .ensures) at ((c .before .before .before .before .before .before .before .before .before .before .before .before .print-result) .ensures .line room) in
+    let kept = (c .before .before .before .before .before .before .before .before .before .before .before .before .print-result) .kept .0 in (
       moves .1,
-      omega (arith, w .within, kept),
+      written-within (l .wrote) (w .within) room kept,
       kept ∙ l .inv .2,
-      trusted-next _ _ _ (l .inv .3) _ ((c .before .before .before .before .before .before .act) .result) h,
-      progress-line _ _ _ _ _ _ (l .inv .4) (g .0 .0) (g .0 .1 .0) told ((c .before .before .before .before .before .before .act) .result) h w ((c .before .before .before .before .before .before .before .before .before .before .no-line) .result) ((c .before .before .before .before .before .before .before .before .before .before .no-line) .ensures),
+      subst⁻¹ (Trusted _ _) after (trusted-next _ _ _ (l .inv .3) _ (applied (l .state) t) ((c .before .before .before .before .before .before .before .before .before .before .before .before .before .before .before .act) .ensures)),
+      progress-as after
+          (progress-line _ _ _ _ _ _ (l .inv .4) (g .0 .0) (g .0 .1 .0) told (applied (l .state) t) ((c .before .before .before .before .before .before .before .before .before .before .before .before .before .before .before .act) .ensures) w ((c .before .before .before .before .before .before .before .before .before .before .before .before .before .before .before .before .before .before .before .before .no-line) .result) ((c .before .before .before .before .before .before .before .before .before .before .before .before .before .before .before .before .before .before .before .before .no-line) .ensures)),
     )
 
 plain-result-requires : tie.Need-plain-result-requires Inv-loop μ-loop
@@ -124,14 +178,14 @@ loop-again-2 c =
     let g = (c .before .before .before .before .before .before .before .before .before .before .before .call) .given in
     let told = sym (ap shown (g .1)) ∙ (c .before .before .before .before .before .before .before .before .before .before .before .before .before .next-line) .ensures in
     let moves = line-moves _ (l .read) (l .held) (g .0 .0) (g .0 .1 .0) told in
-    let stays = rw ((c .before .before .before .before .before .before .answer) .given .1) at ((c .before .before .before .before .before .before .before .before .look-at) .ensures) in
+    let h = subst (Looked _ (l .state) _) ((c .before .before .before .before .before .before .look) .given .1) ((c .before .before .before .before .before .before .before .before .look-at) .ensures) _ (l .inv .3) in
     let w = rw ((c .before .before .before .before .plain-result) .ensures) at ((c .before .before .print-result2) .ensures .line (omega arith)) in
     let kept = (c .before .before .print-result2) .kept .0 in (
       moves .1,
       omega (arith, w .within, kept),
       kept ∙ l .inv .2,
       l .inv .3,
-      progress-line _ _ _ _ _ _ (l .inv .4) (g .0 .0) (g .0 .1 .0) told (plainly (l .state) ((c .before .before .before .before .before .before .answer) .given .0 .0)) (stays _ (l .inv .3)) w ((c .before .before .before .before .before .before .before .before .before .no-line) .result) ((c .before .before .before .before .before .before .before .before .before .no-line) .ensures),
+      progress-line _ _ _ _ _ _ (l .inv .4) (g .0 .0) (g .0 .1 .0) told (plainly (l .state) ((c .before .before .before .before .before .before .look) .given .0 .0)) h w ((c .before .before .before .before .before .before .before .before .before .no-line) .result) ((c .before .before .before .before .before .before .before .before .before .no-line) .ensures),
     )
 
 stopped-requires-3 : tie.Need-stopped-requires-3 Inv-loop μ-loop
@@ -163,10 +217,21 @@ run-lines-spec =
     returns-2
     no-line-requires
     look-at-requires
-    enum-known-answer
-    enum-told-2
+    enum-known-look
+    place-of-requires
+    mul-top
+    element-copy-out-top
     act-requires
+    result-of-requires
     print-result-requires
+    moves-queue-requires
+    place-in-requires
+    events-after-requires
+    queued-after-requires
+    stacks-after-requires
+    stacked-after-requires
+    taken-after-requires
+    made-after-requires
     loop-less
     loop-again
     plain-result-requires

@@ -1,34 +1,27 @@
 -- `agent::outcome::miss` meets its contract, call by call.
 use borrow.Author.Needs.{needs}
-use mathlib.Core.Path.{ap, _∙_}
-use Rattle.model.specs.declared.Instance.{Instance}
+use mathlib.Core.Path.{_∙_}
 use Rattle.model.specs.declared.Answer.the-variants.{Missed}
-use Rattle.state.specs.Stacks.{replaceTop, putAt}
-use Rattle.agent.specs.View.{plainly}
+use Rattle.agent.specs.Outcome.{toppedStep}
 use Rattle.agent.proofs.outcome.miss.Statement.{statement}
 use Rattle.agent.proofs.outcome.miss.Tie as tie
 
 awoken-requires : tie.Need-awoken-requires
 awoken-requires c κs = search needs
 
-with-top-at-requires : tie.Need-with-top-at-requires
-with-top-at-requires c κs = search needs
-
 last-tried-requires : tie.Need-last-tried-requires
 last-tried-requires c κs = search needs
 
-acted-requires : tie.Need-acted-requires
-acted-requires c κs = search needs
+topped-requires : tie.Need-topped-requires
+topped-requires c κs = search needs
 
 returns : tie.Need-returns
 returns c =
-    let a = (c .before .before .before .before .before .args) in
+    let a = (c .before .before .before .before .args) in
     let x = a .stack .top in
-    let t = (c .before .before .with-top-at) .ensures ∙ ap (λ (y : Instance). putAt (a .s) (a .place) (replaceTop (a .stack) y)) ((c .before .before .before .awoken) .ensures) in
+    let next = (c .before .before .awoken) .ensures in
     let last = (c .before .last-tried) .ensures in
-    (c .acted) .ensures ∙ (λ i. plainly (t i) (Missed (x .id) (x .state) (last i)))
+    (c .topped) .ensures ∙ (λ i. toppedStep (a .b) (a .place) (a .stack) (next i) (Missed (x .id) (x .state) (last i)))
 
 pub miss-spec : {M : Type 1} → statement M
-miss-spec =
-    tie.close
-    (tie.spec awoken-requires with-top-at-requires last-tried-requires acted-requires returns)
+miss-spec = tie.close (tie.spec awoken-requires last-tried-requires topped-requires returns)

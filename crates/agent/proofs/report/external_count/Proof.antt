@@ -14,13 +14,13 @@ use Rattle.agent.proofs.report.external_count.Statement.{statement}
 use Rattle.agent.proofs.report.external_count.Tie as tie
 
 abbrev Inv-loop : tie.InvT-loop
-Inv-loop s n found₀ left₀ found left = (left ≤ n) × (found + left ≤ n) × (found + count isExternal (take left (s .queue)) ≡ count isExternal (take n (s .queue)))
+Inv-loop queued events n found₀ left₀ found left = (left ≤ n) × (found + left ≤ n) × (found + count isExternal (take left events) ≡ count isExternal (take n events))
 
 abbrev μ-loop : tie.MeasureT-loop
-μ-loop s n found₀ left₀ found left = left
+μ-loop queued events n found₀ left₀ found left = left
 
-queued-of-requires : tie.Need-queued-of-requires Inv-loop μ-loop
-queued-of-requires c κs = search needs
+in-use-requires : tie.Need-in-use-requires Inv-loop μ-loop
+in-use-requires c κs = search needs
 
 loop-holds : tie.Need-loop-holds Inv-loop μ-loop
 loop-holds c = (omega arith, omega arith, omega arith)
@@ -31,14 +31,14 @@ sub-left c = omega arith
 mul-event : tie.Need-mul-event Inv-loop μ-loop
 mul-event c = search needs
 
-element-copy-out-event : tie.Need-element-copy-out-event Inv-loop μ-loop
-element-copy-out-event c = search needs
+array-copy-out-event : tie.Need-array-copy-out-event Inv-loop μ-loop
+array-copy-out-event c = omega (arith, (c .before .before .in-use) .ensures)
 
 is-goal-requires : tie.Need-is-goal-requires Inv-loop μ-loop
 is-goal-requires c κs = search needs
 
 add-found : tie.Need-add-found Inv-loop μ-loop
-add-found c = omega (arith, (c .before .before .before .before .before .queued-of) .ensures)
+add-found c = omega (arith, (c .before .before .before .before .before .in-use) .ensures)
 
 loop-less : tie.Need-loop-less Inv-loop μ-loop
 loop-less c = search needs
@@ -47,10 +47,10 @@ loop-again : tie.Need-loop-again Inv-loop μ-loop
 loop-again c =
     let a = (c .before .before .before .before .before .before .args) in
     let l = (c .before .before .before .before .loop) in
-    let size = (c .before .before .before .before .before .queued-of) .ensures in
-    let len : length (a .t1 .queue) ≡ 88 = search (needs, length-mapped) in
+    let size = (c .before .before .before .before .before .in-use) .ensures in
+    let len : length (a .t1) ≡ 88 = search (needs, length-mapped) in
     let e = ap not (sym ((c .before .is-goal) .ensures) ∙ not-true _ ((c .if1) .taken)) in
-    (omega arith, omega arith, omega (arith, count-back isExternal (a .t1 .queue) (l .left) _ _ (omega arith) (omega arith) e))
+    (omega arith, omega arith, omega (arith, count-back isExternal (a .t1) (l .left) _ _ (omega arith) (omega arith) e))
 
 loop-less-2 : tie.Need-loop-less-2 Inv-loop μ-loop
 loop-less-2 c = search needs
@@ -59,18 +59,18 @@ loop-again-2 : tie.Need-loop-again-2 Inv-loop μ-loop
 loop-again-2 c =
     let a = (c .before .before .before .before .before .before .args) in
     let l = (c .before .before .before .before .loop) in
-    let size = (c .before .before .before .before .before .queued-of) .ensures in
-    let len : length (a .t1 .queue) ≡ 88 = search (needs, length-mapped) in
+    let size = (c .before .before .before .before .before .in-use) .ensures in
+    let len : length (a .t1) ≡ 88 = search (needs, length-mapped) in
     let e = ap not (sym ((c .before .is-goal) .ensures) ∙ not-false _ ((c .if1) .left)) in
-    (omega arith, omega arith, omega (arith, count-back isExternal (a .t1 .queue) (l .left) _ _ (omega arith) (omega arith) e))
+    (omega arith, omega arith, omega (arith, count-back isExternal (a .t1) (l .left) _ _ (omega arith) (omega arith) e))
 
 returns : tie.Need-returns Inv-loop μ-loop
 returns c =
     let a = (c .before .before .before .args) in
     let l = (c .before .loop) in
     let z : l .left ≡ 0 = omega arith in
-    let e = ap (λ (m : ℕ). count isExternal (take m (a .t1 .queue))) z in
-    let t = ap (λ (m : ℕ). count isExternal (take m (a .t1 .queue))) ((c .before .before .queued-of) .ensures) in
+    let e = ap (λ (m : ℕ). count isExternal (take m (a .t1))) z in
+    let t = ap (λ (m : ℕ). count isExternal (take m (a .t1))) ((c .before .before .in-use) .ensures) in
     omega (arith, e, t, l .inv .2)
 
 pub external-count-spec : {M : Type 1} → statement M
@@ -79,11 +79,11 @@ external-count-spec =
     (tie.spec
     Inv-loop
     μ-loop
-    queued-of-requires
+    in-use-requires
     loop-holds
     sub-left
     mul-event
-    element-copy-out-event
+    array-copy-out-event
     is-goal-requires
     add-found
     loop-less

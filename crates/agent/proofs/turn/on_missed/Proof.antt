@@ -16,15 +16,15 @@ with-try-requires : tie.Need-with-try-requires
 with-try-requires c κs = search needs
 
 turned-requires : tie.Need-turned-requires
-turned-requires c κs = ((c .before .before .before .pre) .0, ((c .before .before .before .pre) .1 .0, (c .before .before .before .pre) .1 .1 .1 .few))
+turned-requires c κs = (c .before .before .before .pre) .0
 
 returns : tie.Need-returns
 unfolding tried
-returns c =
+returns c = λ s stands alters room.
     let a = (c .before .before .before .before .args) in
-    replies-as (ap (λ (x : Instance). ended (viewState (a .s)) (a .place) (withTop (viewStack (a .stack)) x ∷ []) (Missed (a .stack .top .id) (a .stack .top .state) (a .stack .top .tried)) (a .altered)) ((c .before .before .with-try) .ensures)
-    ∙ ended-after (a .s) (a .s) (a .place) (a .stack) _ _ [] (viewQueue (a .s)) (a .altered) ((c .before .before .before .before .pre) .1 .1 .1) refl)
-    ((c .turned) .ensures)
+    replies-as (ap (λ (x : Instance). ended (viewState s) (a .place) (withTop (viewStack (a .stack)) x ∷ []) (Missed (a .stack .top .id) (a .stack .top .state) (a .stack .top .tried)) (a .altered)) ((c .before .before .with-try) .ensures)
+    ∙ ended-after s s (a .place) (a .stack) _ _ [] (viewQueue s) (a .altered) alters refl)
+    ((c .turned) .ensures s stands (alters .few))
 
 pub on-missed-spec : {M : Type 1} → statement M
 on-missed-spec = tie.close (tie.spec with-try-requires turned-requires returns)

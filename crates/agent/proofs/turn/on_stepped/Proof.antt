@@ -1,4 +1,4 @@
--- `agent::turn::on_stepped` meets its contract: the top is in the next state, and the stack goes last.
+-- `agent::turn::on_stepped` meets its contract: the next state, and the stack goes last.
 use borrow.Author.Needs.{needs}
 use mathlib.Core.Path.{refl, ap, _∙_}
 use mathlib.Core.List.{[], _∷_}
@@ -6,10 +6,10 @@ use Rattle.model.specs.declared.Answer.the-variants.{Stepped}
 use Rattle.model.specs.declared.Instance.{Instance}
 use Rattle.model.specs.Try.{withTop, tried}
 use Rattle.state.specs.View.{viewStack, viewQueue, viewState}
-use Rattle.agent.specs.Altered.{changesOf}
 use Rattle.agent.specs.Turnable.{ended}
 use Rattle.agent.proofs.GivesLaws.{replies-as}
 use Rattle.agent.proofs.TurnLaws.{ended-after}
+use Rattle.agent.specs.Altered.{changesOf}
 use Rattle.agent.proofs.turn.on_stepped.Statement.{statement}
 use Rattle.agent.proofs.turn.on_stepped.Tie as tie
 
@@ -17,15 +17,15 @@ stepped-to-requires : tie.Need-stepped-to-requires
 stepped-to-requires c κs = search needs
 
 turned-requires : tie.Need-turned-requires
-turned-requires c κs = ((c .before .before .before .pre) .0, ((c .before .before .before .pre) .1 .0, (c .before .before .before .pre) .1 .1 .few))
+turned-requires c κs = (c .before .before .before .pre)
 
 returns : tie.Need-returns
 unfolding tried
-returns c =
+returns c = λ s stands alters room.
     let a = (c .before .before .before .before .args) in
-    replies-as (ap (λ (x : Instance). ended (viewState (a .s)) (a .place) (withTop (viewStack (a .stack)) x ∷ []) (Stepped (a .stack .top .id) (a .stack .top .state) (a .stack .top .tried) (a .branch .next)) (a .altered)) ((c .before .before .stepped-to) .ensures)
-    ∙ ended-after (a .s) (a .s) (a .place) (a .stack) _ _ (changesOf (a .altered)) (viewQueue (a .s)) (a .altered) ((c .before .before .before .before .pre) .1 .1) refl)
-    ((c .turned) .ensures)
+    replies-as (ap (λ (x : Instance). ended (viewState s) (a .place) (withTop (viewStack (a .stack)) x ∷ []) (Stepped (a .stack .top .id) (a .stack .top .state) (a .stack .top .tried) (a .branch .next)) (a .altered)) ((c .before .before .stepped-to) .ensures)
+    ∙ ended-after s s (a .place) (a .stack) _ _ (changesOf (a .altered)) (viewQueue s) (a .altered) alters refl)
+    ((c .turned) .ensures s stands (alters .few))
 
 pub on-stepped-spec : {M : Type 1} → statement M
 on-stepped-spec = tie.close (tie.spec stepped-to-requires turned-requires returns)

@@ -1,9 +1,5 @@
 -- `agent::turn::on_trial` meets its contract: each outcome has its own function.
 use borrow.Author.Needs.{needs}
-use mathlib.Core.Path.{ap}
-use Rattle.agent.specs.declared.tries.Outcome.{Outcome}
-use Rattle.agent.specs.Altered.{changesOf}
-use Rattle.agent.specs.Trial.{viewOutcome}
 use Rattle.agent.proofs.turn.on_trial.Statement.{statement}
 use Rattle.agent.proofs.turn.on_trial.Tie as tie
 
@@ -11,38 +7,25 @@ enum-told : tie.Need-enum-told
 enum-told c = search needs
 
 on-missed-requires : tie.Need-on-missed-requires
-on-missed-requires c κs = ((c .before .before .before .pre) .0, ((c .before .before .before .pre) .1 .0, ((c .before .before .before .pre) .1 .1 .0, rw ((c .enum-told) .given .1) at ((c .before .before .before .pre) .1 .1 .1 .0))))
+on-missed-requires c κs = search needs
 
 enum-told-2 : tie.Need-enum-told-2
 enum-told-2 c = search needs
 
 on-stepped-requires : tie.Need-on-stepped-requires
-on-stepped-requires c κs = ((c .before .before .before .before .pre) .0, ((c .before .before .before .before .pre) .1 .0, rw ((c .before .enum-told2) .given .1) at ((c .before .before .before .before .pre) .1 .1 .1 .0)))
+on-stepped-requires c κs = search needs
 
 enum-known-outcome : tie.Need-enum-known-outcome
 enum-known-outcome c = search needs
 
 on-done-requires : tie.Need-on-done-requires
-on-done-requires c κs = ((c .before .before .before .before .pre) .0, ((c .before .before .before .before .pre) .1 .0, ((c .before .before .before .before .pre) .1 .1 .0, rw ((c .before .outcome) .given .1) at ((c .before .before .before .before .pre) .1 .1 .1 .0))))
+on-done-requires c κs = search needs
 
 enum-known-outcome-2 : tie.Need-enum-known-outcome-2
 enum-known-outcome-2 c = search needs
 
 on-posted-requires : tie.Need-on-posted-requires
-on-posted-requires c κs =
-    let t = (c .before .before .before .before .args) .trial in (
-      (c .before .before .before .before .pre) .0,
-      (
-        (c .before .before .before .before .pre) .1 .0,
-        (
-          (c .before .before .before .before .pre) .1 .1 .0,
-          (
-            rw ((c .before .outcome2) .given .1) at ((c .before .before .before .before .pre) .1 .1 .1 .0),
-            (c .before .before .before .before .pre) .1 .1 .1 .1 _ (ap (λ (o : Outcome). viewOutcome o (t .env) (changesOf (t .altered))) ((c .before .outcome2) .given .1)),
-          ),
-        ),
-      ),
-    )
+on-posted-requires c κs = search needs
 
 returns : tie.Need-returns
 returns c = rw ((c .before .enum-told) .given .1) ((c .on-missed) .ensures)

@@ -8,18 +8,18 @@ use Rattle.lists.proofs.ArrayLaws.{length-mapped}
 use Rattle.lists.proofs.SearchLaws.{Passed, search-hit, search-miss, search-end}
 use Rattle.model.specs.Outcome.{isAwaiting}
 use Rattle.state.specs.View.{viewStack}
-use Rattle.state.proofs.SearchSteps.{stack-place}
+use Rattle.state.proofs.SearchSteps.{place-of}
 use Rattle.state.proofs.search.waiting_place.Statement.{statement}
 use Rattle.state.proofs.search.waiting_place.Tie as tie
 
 abbrev Inv-loop : tie.InvT-loop
-Inv-loop id s n i₀ i = (i ≤ n) × Passed (λ k. isAwaiting id (viewStack k)) (take n (s .stacks)) 0 i
+Inv-loop stacked id stacks n i₀ i = (i ≤ n) × Passed (λ k. isAwaiting id (viewStack k)) (take n stacks) 0 i
 
 abbrev μ-loop : tie.MeasureT-loop
-μ-loop id s n i₀ i = n - i
+μ-loop stacked id stacks n i₀ i = n - i
 
-stacked-of-requires : tie.Need-stacked-of-requires Inv-loop μ-loop
-stacked-of-requires c κs = search needs
+in-use-requires : tie.Need-in-use-requires Inv-loop μ-loop
+in-use-requires c κs = search needs
 
 loop-holds : tie.Need-loop-holds Inv-loop μ-loop
 loop-holds c = (omega arith, refl)
@@ -27,8 +27,8 @@ loop-holds c = (omega arith, refl)
 mul-stack : tie.Need-mul-stack Inv-loop μ-loop
 mul-stack c = search needs
 
-element-copy-out-stack : tie.Need-element-copy-out-stack Inv-loop μ-loop
-element-copy-out-stack c = search needs
+array-copy-out-stack : tie.Need-array-copy-out-stack Inv-loop μ-loop
+array-copy-out-stack c = search needs
 
 is-awaiting-requires : tie.Need-is-awaiting-requires Inv-loop μ-loop
 is-awaiting-requires c κs = search needs
@@ -36,12 +36,10 @@ is-awaiting-requires c κs = search needs
 returns : tie.Need-returns Inv-loop μ-loop
 returns c =
     let a = (c .before .before .before .before .before .before .args) in
-    let l = (c .before .before .before .before .loop) in
-    let n = (c .before .before .before .before .before .stacked-of) .result in
-    let size = (c .before .before .before .before .before .stacked-of) .ensures in
-    let len : length (a .t1 .stacks) ≡ 8 = search (needs, length-mapped) in
-    let hit = search-hit (λ k. isAwaiting (a .id) (viewStack k)) (a .t1 .stacks) n 0 (l .i) _ (omega arith) (omega arith) (l .inv .1) (sym ((c .before .is-awaiting) .ensures) ∙ (c .if1) .taken) in
-    stack-place (a .t1) n (l .i) (isAwaiting (a .id)) size hit
+    let n = (c .before .before .before .before .before .in-use) .result in
+    let len : length (a .t1) ≡ 8 = search (needs, length-mapped) in
+    let hit = search-hit (λ k. isAwaiting (a .id) (viewStack k)) (a .t1) n 0 ((c .before .before .before .before .loop) .i) _ (omega arith) (omega arith) ((c .before .before .before .before .loop) .inv .1) (sym ((c .before .is-awaiting) .ensures) ∙ (c .if1) .taken) in
+    place-of (a .t1) n ((c .before .before .before .before .loop) .i) (isAwaiting (a .id)) ((c .before .before .before .before .before .in-use) .ensures) hit
 
 add-i : tie.Need-add-i Inv-loop μ-loop
 add-i c = search needs
@@ -52,19 +50,17 @@ loop-less c = search needs
 loop-again : tie.Need-loop-again Inv-loop μ-loop
 loop-again c =
     let a = (c .before .before .before .before .before .before .args) in
-    let l = (c .before .before .before .before .loop) in
-    let n = (c .before .before .before .before .before .stacked-of) .result in
-    let size = (c .before .before .before .before .before .stacked-of) .ensures in
-    let len : length (a .t1 .stacks) ≡ 8 = search (needs, length-mapped) in
-    (omega arith, search-miss (λ k. isAwaiting (a .id) (viewStack k)) (a .t1 .stacks) n 0 (l .i) _ (omega arith) (omega arith) (l .inv .1) (sym ((c .before .is-awaiting) .ensures) ∙ (c .if1) .left))
+    let n = (c .before .before .before .before .before .in-use) .result in
+    let size = (c .before .before .before .before .before .in-use) .ensures in
+    let len : length (a .t1) ≡ 8 = search (needs, length-mapped) in
+    (omega arith, search-miss (λ k. isAwaiting (a .id) (viewStack k)) (a .t1) n 0 ((c .before .before .before .before .loop) .i) _ (omega arith) (omega arith) ((c .before .before .before .before .loop) .inv .1) (sym ((c .before .is-awaiting) .ensures) ∙ (c .if1) .left))
 
 returns-2 : tie.Need-returns-2 Inv-loop μ-loop
 returns-2 c =
     let a = (c .before .before .before .args) in
-    let l = (c .before .loop) in
-    let n = (c .before .before .stacked-of) .result in
-    let end = search-end (λ k. isAwaiting (a .id) (viewStack k)) (take n (a .t1 .stacks)) 0 (l .i) (simp length-take (omega arith)) (l .inv .1) in
-    stack-place (a .t1) n (l .i) (isAwaiting (a .id)) ((c .before .before .stacked-of) .ensures) end
+    let n = (c .before .before .in-use) .result in
+    let end = search-end (λ k. isAwaiting (a .id) (viewStack k)) (take n (a .t1)) 0 ((c .before .loop) .i) (simp length-take (omega arith)) ((c .before .loop) .inv .1) in
+    place-of (a .t1) n ((c .before .loop) .i) (isAwaiting (a .id)) ((c .before .before .in-use) .ensures) end
 
 pub waiting-place-spec : {M : Type 1} → statement M
 waiting-place-spec =
@@ -72,10 +68,10 @@ waiting-place-spec =
     (tie.spec
     Inv-loop
     μ-loop
-    stacked-of-requires
+    in-use-requires
     loop-holds
     mul-stack
-    element-copy-out-stack
+    array-copy-out-stack
     is-awaiting-requires
     returns
     add-i
