@@ -9,7 +9,6 @@ mod changes; // belief changes of a call
 mod cycle; // one cycle
 mod ends; // success and failure
 mod event; // taking up a pending event
-mod instance; // an instance moves on
 pub mod feed; // a chunk of the journal
 mod look; // what a line gives, before anything moves
 mod outcome; // the outcome of an external action

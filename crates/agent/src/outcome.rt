@@ -2,10 +2,10 @@
 ghost use mathlib.Core.Path.{_≡_};
 ghost use Rattle.library.specs.Layout.{libraryOf};
 ghost use Rattle.agent.specs.Outcome.{toppedStep, steppedOn, missedOn, Tells};
-use crate::instance;
 use crate::step;
 use crate::step::Step;
 use belief::Beliefs;
+use jobs::instance;
 use model::Answer;
 use model::Instance;
 use moves::Numbering;

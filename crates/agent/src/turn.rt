@@ -3,6 +3,7 @@ ghost use mathlib.Core.Path.{_≡_};
 ghost use Prim.Native.Nat.{_<_, _≤_};
 ghost use Rattle.belief.specs.Beliefs.{mostBeliefs, view};
 ghost use Rattle.library.specs.Layout.{planCount, libraryOf};
+ghost use Rattle.model.specs.Instance.{tryNext};
 ghost use Rattle.model.specs.Try.{missed, stepped, done, posted};
 ghost use Rattle.model.specs.Turn.{nextMove};
 ghost use Rattle.state.specs.View.{mostBelow};
@@ -11,12 +12,12 @@ ghost use Rattle.agent.specs.Trial.{viewTrial};
 ghost use Rattle.agent.specs.Turnable.{Runnable, Tried, TriesBranch, Turns, viewDecision};
 use crate::changes::Altered;
 use crate::ends;
-use crate::instance;
 use crate::step::Step;
 use crate::tries;
 use crate::tries::Outcome;
 use crate::tries::Trial;
 use belief::Beliefs;
+use jobs::instance;
 use library::Branch;
 use library::plan;
 use literal::Env;
@@ -39,6 +40,19 @@ pub enum Decision {
 
 // ---- What came of a branch
 
+// One branch more is tried.
+fn with_try(x: Instance, status: Status) -> Instance
+    requires { ⌜ x .tried ≤ 4 ⌝ }
+    ensures { λ r. ⌜ r ≡ tryNext status x ⌝ }
+{
+    let tried = x.tried + 1;
+    Instance {
+        tried: tried,
+        status: status,
+        ..x
+    }
+}
+
 // The branch missed: the instance stays active.
 fn on_missed(place: usize, stack: Stack, branch: Branch, altered: Altered) -> Step
     requires { ⌜ (stack .depth ≤ mostBelow) × (stack .top .tried ≤ 4) ⌝ }
@@ -46,7 +60,7 @@ fn on_missed(place: usize, stack: Stack, branch: Branch, altered: Altered) -> St
 {
     let x = stack.top;
     let active = Status::Active;
-    let top = instance::with_try(x, active);
+    let top = with_try(x, active);
     let next = Stack { top: top, ..stack };
     let answer = Answer::Missed {
         instance: x.id,
@@ -80,7 +94,7 @@ fn on_done(place: usize, stack: Stack, branch: Branch, l: Literal, altered: Alte
 {
     let x = stack.top;
     let waiting = Status::Waiting;
-    let top = instance::with_try(x, waiting);
+    let top = with_try(x, waiting);
     let next = Stack { top: top, ..stack };
     let answer = Answer::Done {
         instance: x.id,
@@ -109,7 +123,7 @@ fn on_posted(place: usize, stack: Stack, branch: Branch, goal: Literal, altered:
         failed: 0,
     };
     let suspended = Status::Suspended;
-    let top = instance::with_try(x, suspended);
+    let top = with_try(x, suspended);
     let next = Stack { top: top, ..stack };
     let answer = Answer::Posted {
         instance: x.id,

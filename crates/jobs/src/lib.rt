@@ -15,7 +15,8 @@ use state::MOST_STACKS;
 use state::Stack;
 use state::origin::goal_of;
 
-pub mod place; // place.rt: what an instance's plan says at its place
+pub mod instance; // an instance moves on
+pub mod place; // what an instance's plan says at its place
 
 // An instance and what tells the event that it serves.
 pub struct Job {

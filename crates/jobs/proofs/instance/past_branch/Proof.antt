@@ -1,10 +1,10 @@
--- `agent::instance::past_branch` meets its contract: the branch is the instance's, whatever its plan.
+-- `jobs::instance::past_branch` meets its contract: the branch is the instance's, whatever its plan.
 use borrow.Author.Needs.{needs}
 use mathlib.Core.Path.{ap, _∙_}
 use Rattle.library.specs.declared.Branch.{Branch}
 use Rattle.model.specs.Instance.{stepTo, pastBranch}
-use Rattle.agent.proofs.instance.past_branch.Statement.{statement}
-use Rattle.agent.proofs.instance.past_branch.Tie as tie
+use Rattle.jobs.proofs.instance.past_branch.Statement.{statement}
+use Rattle.jobs.proofs.instance.past_branch.Tie as tie
 
 branch-requires : tie.Need-branch-requires
 branch-requires c κs = search needs

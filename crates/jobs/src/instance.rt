@@ -1,15 +1,14 @@
-// An instance moves on: active again, one branch more tried, in another state, or past the branch that it tried.
+// An instance moves on: active again, in another state, or past the branch that it tried.
 ghost use mathlib.Core.Path.{_≡_};
-ghost use Prim.Native.Nat.{_≤_};
 ghost use Rattle.library.specs.Layout.{libraryOf};
-ghost use Rattle.model.specs.Instance.{awake, tryNext, stepTo, pastBranch};
-use jobs::place;
+ghost use Rattle.model.specs.Instance.{awake, stepTo, pastBranch};
+use crate::place;
 use literal::Env;
 use model::Instance;
 use model::Status;
 
 // The instance active again, where it was.
-pub(crate) fn awoken(x: Instance) -> Instance
+pub fn awoken(x: Instance) -> Instance
     ensures { λ r. ⌜ r ≡ awake x ⌝ }
 {
     Instance {
@@ -19,21 +18,8 @@ pub(crate) fn awoken(x: Instance) -> Instance
     }
 }
 
-// One branch more is tried.
-pub(crate) fn with_try(x: Instance, status: Status) -> Instance
-    requires { ⌜ x .tried ≤ 4 ⌝ }
-    ensures { λ r. ⌜ r ≡ tryNext status x ⌝ }
-{
-    let tried = x.tried + 1;
-    Instance {
-        tried: tried,
-        status: status,
-        ..x
-    }
-}
-
 // The instance in another state, active, with no branch tried there.
-pub(crate) fn stepped_to(x: Instance, next: u16, env: Env) -> Instance
+pub fn stepped_to(x: Instance, next: u16, env: Env) -> Instance
     ensures { λ r. ⌜ r ≡ stepTo next env x ⌝ }
 {
     let active = Status::Active;
@@ -47,7 +33,7 @@ pub(crate) fn stepped_to(x: Instance, next: u16, env: Env) -> Instance
 }
 
 // The instance past the branch that it tried last: a poster past its goal, a waiting one past its action.
-pub(crate) fn past_branch(library: &[u8], x: Instance) -> Instance
+pub fn past_branch(library: &[u8], x: Instance) -> Instance
     ensures { λ r. ⌜ r ≡ pastBranch (libraryOf (now (library .entry))) x ⌝ }
 {
     let branch = place::branch(library, x);
