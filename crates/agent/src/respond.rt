@@ -68,9 +68,12 @@ pub(crate) fn respond(library: &[u8], length: usize, s: State, spoken: Spoken) -
         return answer::acted(s, Answer::Refused(refusal));
     }
     let look = look::look_at(true, s, spoken);
-    let own = &library[..length];
-    let at = look::place_of(look);
-    let stack = s.stacks[at];
-    let t = act(own, true, s, spoken, look, stack);
-    step::acted_by(s, t)
+    let Look::Answered(answer) = look else {
+        let own = &library[..length];
+        let at = look::place_of(look);
+        let stack = s.stacks[at];
+        let t = act(own, true, s, spoken, look, stack);
+        return step::acted_by(s, t);
+    };
+    answer::acted(s, answer)
 }

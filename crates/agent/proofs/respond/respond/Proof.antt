@@ -1,6 +1,6 @@
 -- `agent::respond::respond` meets its contract: not well formed, or what the look told.
 use borrow.Author.Needs.{needs}
-use mathlib.Core.Path.{ap, sym, subst⁻¹, _∙_}
+use mathlib.Core.Path.{ap, sym, subst, subst⁻¹, _∙_}
 use mathlib.Core.Bool.{Bool, true}
 use borrow.Author.Tests.{not-true, not-false}
 use lib.ListN.{take}
@@ -11,6 +11,7 @@ use Rattle.state.proofs.CountParts.{counts-parts}
 use Rattle.agent.specs.View.{plainly, stackAt}
 use Rattle.agent.specs.Calls.{isWellFormedWith}
 use Rattle.agent.specs.Feed.{Trusted, Responds}
+use Rattle.agent.specs.Look.{Looked}
 use Rattle.agent.proofs.CallsLaws.{test-within, test-parts}
 use Rattle.agent.proofs.FeedLaws.{responds-refused}
 use Rattle.agent.proofs.LookLaws.{place-low}
@@ -40,42 +41,57 @@ look-at-requires c κs =
 
 slice-aggregate-own : tie.Need-slice-aggregate-own
 slice-aggregate-own c =
-    let a = (c .before .before .before .before .before .args) in
-    sym (length-take-le (a .length) (a .library .now) (test-within (a .library .now) (a .length) (a .t3) (sym ((c .before .before .before .is-well-formed) .ensures) ∙ not-false _ ((c .before .before .if1) .left))))
+    let a = (c .before .before .before .before .before .before .args) in
+    sym (length-take-le (a .length) (a .library .now) (test-within (a .library .now) (a .length) (a .t3) (sym ((c .before .before .before .before .is-well-formed) .ensures) ∙ not-false _ ((c .before .before .before .if1) .left))))
+
+enum-known-look : tie.Need-enum-known-look
+enum-known-look c = search needs
 
 place-of-requires : tie.Need-place-of-requires
 place-of-requires c κs = search needs
 
 mul-stack : tie.Need-mul-stack
 mul-stack c =
-    let a = (c .before .before .before .before .before .before .args) in
-    let trusted : Trusted true (take (a .length) (a .library .now)) (a .t3) = λ e. test-parts (a .library .now) (a .length) (a .t3) (sym ((c .before .before .before .before .is-well-formed) .ensures) ∙ not-false _ ((c .before .before .before .if1) .left)) in
-    let low = place-low (take (a .length) (a .library .now)) (a .t3) true (meaning (a .spoken)) ((c .before .before .look-at) .result) trusted ((c .before .before .look-at) .ensures) in
+    let a = (c .before .before .before .before .before .before .before .args) in
+    let trusted : Trusted true (take (a .length) (a .library .now)) (a .t3) = λ e. test-parts (a .library .now) (a .length) (a .t3) (sym ((c .before .before .before .before .before .is-well-formed) .ensures) ∙ not-false _ ((c .before .before .before .before .if1) .left)) in
+    let low = place-low (take (a .length) (a .library .now)) (a .t3) true (meaning (a .spoken)) ((c .before .before .before .look-at) .result) trusted ((c .before .before .before .look-at) .ensures) in
     let at = (c .place-of) .ensures in
     search needs
 
 element-copy-out-stack : tie.Need-element-copy-out-stack
 element-copy-out-stack c =
-    let a = (c .before .before .before .before .before .before .args) in
-    let trusted : Trusted true (take (a .length) (a .library .now)) (a .t3) = λ e. test-parts (a .library .now) (a .length) (a .t3) (sym ((c .before .before .before .before .is-well-formed) .ensures) ∙ not-false _ ((c .before .before .before .if1) .left)) in
-    let low = place-low (take (a .length) (a .library .now)) (a .t3) true (meaning (a .spoken)) ((c .before .before .look-at) .result) trusted ((c .before .before .look-at) .ensures) in
+    let a = (c .before .before .before .before .before .before .before .args) in
+    let trusted : Trusted true (take (a .length) (a .library .now)) (a .t3) = λ e. test-parts (a .library .now) (a .length) (a .t3) (sym ((c .before .before .before .before .before .is-well-formed) .ensures) ∙ not-false _ ((c .before .before .before .before .if1) .left)) in
+    let low = place-low (take (a .length) (a .library .now)) (a .t3) true (meaning (a .spoken)) ((c .before .before .before .look-at) .result) trusted ((c .before .before .before .look-at) .ensures) in
     let at = (c .place-of) .ensures in
     search needs
 
 act-requires : tie.Need-act-requires
 act-requires c κs =
-    let a = (c .before .before .before .before .before .before .before .args) in
-    ((λ e. test-parts (a .library .now) (a .length) (a .t3) (sym ((c .before .before .before .before .before .is-well-formed) .ensures) ∙ not-false _ ((c .before .before .before .before .if1) .left))), ((c .before .before .before .look-at) .ensures, ap (stackAt (a .t3)) ((c .before .place-of) .ensures)))
+    let a = (c .before .before .before .before .before .before .before .before .args) in
+    ((λ e. test-parts (a .library .now) (a .length) (a .t3) (sym ((c .before .before .before .before .before .before .is-well-formed) .ensures) ∙ not-false _ ((c .before .before .before .before .before .if1) .left))), ((c .before .before .before .before .look-at) .ensures, ap (stackAt (a .t3)) ((c .before .place-of) .ensures)))
 
 acted-by-requires : tie.Need-acted-by-requires
 acted-by-requires c κs = search needs
 
 returns-2 : tie.Need-returns-2
 returns-2 c =
-    let a = (c .before .before .before .before .before .before .before .before .before .args) in
+    let a = (c .before .before .before .before .before .before .before .before .before .before .args) in
     subst⁻¹ (λ (b : Bool). Responds (take (a .length) (a .library .now)) b (a .t3) (meaning (a .spoken)) ((c .acted-by) .result))
-    (sym ((c .before .before .before .before .before .before .before .is-well-formed) .ensures) ∙ not-false _ ((c .before .before .before .before .before .before .if1) .left))
+    (sym ((c .before .before .before .before .before .before .before .before .is-well-formed) .ensures) ∙ not-false _ ((c .before .before .before .before .before .before .before .if1) .left))
     (subst⁻¹ (Responds (take (a .length) (a .library .now)) true (a .t3) (meaning (a .spoken))) ((c .acted-by) .ensures) ((c .before .act) .ensures))
+
+acted-requires-2 : tie.Need-acted-requires-2
+acted-requires-2 c κs = search needs
+
+returns-3 : tie.Need-returns-3
+returns-3 c =
+    let a = (c .before .before .before .before .before .before .before .before .args) in
+    let formed = sym ((c .before .before .before .before .before .before .is-well-formed) .ensures) ∙ not-false _ ((c .before .before .before .before .before .if1) .left) in
+    let told = subst (Looked true (a .t3) (meaning (a .spoken))) ((c .before .before .look) .given .1) ((c .before .before .before .before .look-at) .ensures) in
+    subst⁻¹ (λ (b : Bool). Responds (take (a .length) (a .library .now)) b (a .t3) (meaning (a .spoken)) ((c .acted2) .result)) formed
+    (subst⁻¹ (Responds (take (a .length) (a .library .now)) true (a .t3) (meaning (a .spoken))) ((c .acted2) .ensures)
+    (told (take (a .length) (a .library .now)) (λ e. test-parts (a .library .now) (a .length) (a .t3) formed)))
 
 pub respond-spec : {M : Type 1} → statement M
 respond-spec =
@@ -86,10 +102,13 @@ respond-spec =
     acted-requires
     returns
     look-at-requires
+    enum-known-look
     slice-aggregate-own
     place-of-requires
     mul-stack
     element-copy-out-stack
     act-requires
     acted-by-requires
-    returns-2)
+    returns-2
+    acted-requires-2
+    returns-3)
