@@ -1,12 +1,10 @@
 pub mod GivesLaws
 pub mod OutcomeLaws
-pub mod AlteredLaws
 pub mod EventLaws
 pub mod TakeUpLaws
 pub mod ReportLaws
 pub mod CountLaws
 pub mod StepLaws
-pub mod TrialLaws
 pub mod TurnLaws
 pub mod FormedFacts
 pub mod CycleLaws

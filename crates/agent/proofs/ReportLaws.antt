@@ -12,7 +12,6 @@ use Rattle.lists.specs.Counts.{bit, count}
 use Rattle.lists.proofs.CountLaws.{total-append}
 use Rattle.belief.specs.declared.Beliefs.{Beliefs}
 use Rattle.belief.specs.declared.Change.{Change}
-use Rattle.belief.specs.declared.Applied.{Applied}
 use Rattle.belief.specs.Beliefs.{view, holds, replay}
 use Rattle.belief.proofs.TableSteps.{length-view}
 use Rattle.literal.specs.declared.Literal.{Literal}
@@ -29,18 +28,19 @@ use Rattle.state.specs.declared.Stack.{Stack}
 use Rattle.state.specs.declared.State.{State}
 use Rattle.state.specs.View.{viewQueue, viewStacks, viewState}
 use Rattle.state.proofs.StateLaws.{enqueue-state}
+use Rattle.state.proofs.CountParts.{counts-parts}
 use Rattle.moves.specs.declared.QueueMove.the-variants as queue
 use Rattle.moves.specs.declared.StackMove.the-variants as stacks
 use Rattle.moves.specs.declared.Numbering.the-variants as numbering
 use Rattle.agent.specs.declared.Acted.{Acted}
 use Rattle.agent.specs.declared.step.Step.{Step}
-use Rattle.agent.specs.declared.changes.Altered.{Altered}
-use Rattle.agent.specs.Altered.{untouched, Alters, Extends, Changed}
+use Rattle.trials.specs.declared.changes.Altered.{Altered}
+use Rattle.trials.specs.Altered.{untouched, Alters}
 use Rattle.agent.specs.View.{plainly}
 use Rattle.agent.specs.Gives.{Gives}
 use Rattle.agent.specs.Step.{applied}
 use Rattle.agent.specs.Report.{HasNumber, heard, Hears, Heard}
-use Rattle.agent.proofs.AlteredLaws.{first-change}
+use Rattle.trials.proofs.TrialLaws.{untouched-alters}
 use Rattle.agent.proofs.GivesLaws.{replies-as, gives-as, gives-same, gives-answer}
 use Rattle.agent.proofs.CountLaws.{counts-enqueue}
 use Rattle.agent.proofs.StepLaws.{step-replies}
@@ -117,25 +117,14 @@ pub changes-one : (beliefs : List Literal) (kind : ℕ) (l : Literal) → kind <
 unfolding reportChanges
 changes-one beliefs kind l h = rw (lt-ltb kind 2 h)
 
-module _ (b : Beliefs) (t : Altered) (e : t ≡ untouched b) where
+module _ (b : Beliefs) (kind : ℕ) (l : Literal) (a : Altered) where
   -- a told event changes nothing
-  pub told-alters : (kind : ℕ) (l : Literal) → 2 ≤ kind → b .count ≤ 64 → Alters b (reportChanges (view b) kind l) t
-  unfolding replay
-  told-alters kind l h few =
-      let none = changes-told (view b) kind l h in
-      subst⁻¹ (λ (cs : List Change). Alters b cs t) none (subst⁻¹ (Alters b []) e (record { noted = refl; table = refl; few = few }))
+  pub told-alters : 2 ≤ kind → a ≡ untouched b → Alters b (reportChanges (view b) kind l) a
+  told-alters h e = subst⁻¹ (λ (cs : List Change). Alters b cs a) (changes-told (view b) kind l h) (untouched-alters b a e)
 
-  -- there is room for the first change
-  pub first-room : (c : Change) (applied : Applied) → Changed b c applied → (t .count < 4) × Changed (t .table) c applied
-  first-room c applied h =
-      subst⁻¹ (λ (a : Altered). (a .count < 4) × Changed (a .table) c applied) e (omega arith, h)
-
-  -- one change
-  pub first-alters : (kind : ℕ) (l : Literal) (c : Change) → c ≡ changeOf kind l → kind < 2 → (a : Altered) → Extends t (effective (view (t .table)) c) a
-      → Alters b (reportChanges (view b) kind l) a
-  first-alters kind l c p h a x =
-      let one = changes-one (view b) kind l h ∙ ap (effective (view b)) (sym p) in
-      subst⁻¹ (λ (cs : List Change). Alters b cs a) one (first-change b t a c e x)
+  -- the others change one literal
+  pub one-alters : kind < 2 → (c : Change) → c ≡ changeOf kind l → Alters b (effective (view b) c) a → Alters b (reportChanges (view b) kind l) a
+  one-alters h c e x = subst⁻¹ (λ (cs : List Change). Alters b cs a) (changes-one (view b) kind l h ∙ ap (effective (view b)) (sym e)) x
 
 -- ---- Taking the report in
 
@@ -158,7 +147,7 @@ module _ (s : State) (kind : ℕ) (l : Literal) (p : HasNumber s) (altered : Alt
       let same = (λ i. arrived number (changes i) (table i) (v i)) ∙ ap (λ (m : ℕ). arrived m cs (replay (view (s .beliefs)) cs) (newEvent m kind l)) n in
       gives-answer s (takeIn (viewState s) kind l cs) (applied s takenStep) refl
       (replies-as same (step-replies s takenStep (requeued (viewState s) (viewQueue s ++ (event ∷ []))) (enqueue-state s event (p .sized .queue) (p .room))
-      (counts-enqueue s (p .fit) event) (a .few)))
+      (counts-enqueue s (p .fit) event) (a .few (counts-parts s (p .fit) .beliefs))))
 
 -- ---- The report
 

@@ -25,7 +25,7 @@ use Rattle.moves.proofs.MoveLaws.{requeue-parts, restack-parts}
 use Rattle.agent.specs.declared.step.Step.{Step}
 use Rattle.agent.specs.View.{Sized}
 use Rattle.agent.specs.Gives.{Replies}
-use Rattle.agent.specs.Altered.{changesOf}
+use Rattle.trials.specs.Altered.{changesOf}
 use Rattle.agent.specs.Step.{stateAfter, applied}
 
 -- ---- The reply

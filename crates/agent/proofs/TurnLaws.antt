@@ -42,10 +42,10 @@ use Rattle.moves.specs.declared.StackMove.the-variants as stacks
 use Rattle.moves.specs.declared.Numbering.the-variants as numbering
 use Rattle.moves.specs.Moves.{placeOf, requeue}
 use Rattle.agent.specs.declared.Acted.{Acted}
-use Rattle.agent.specs.declared.changes.Altered.{Altered}
+use Rattle.trials.specs.declared.changes.Altered.{Altered}
 use Rattle.agent.specs.declared.step.Step.{Step}
 use Rattle.agent.specs.Gives.{Replies}
-use Rattle.agent.specs.Altered.{Alters}
+use Rattle.trials.specs.Altered.{Alters}
 use Rattle.agent.specs.View.{Sized}
 use Rattle.agent.specs.Step.{applied}
 use Rattle.agent.specs.Turnable.{placed, Standing, Turnable, ended}

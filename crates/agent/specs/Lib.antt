@@ -1,11 +1,9 @@
 pub mod View
 pub mod Gives
 pub mod Outcome
-pub mod Altered
 pub mod Step
 pub mod Report
 pub mod TakeUp
-pub mod Trial
 pub mod Turnable
 pub mod Cycle
 pub mod Calls

@@ -12,7 +12,7 @@ use Rattle.moves.specs.Moves.{requeue, restack, takenBy, madeBy}
 use Rattle.agent.specs.declared.Acted.{Acted}
 use Rattle.agent.specs.declared.step.Step.{Step}
 use Rattle.agent.specs.View.{plainly}
-use Rattle.agent.specs.Altered.{untouched}
+use Rattle.trials.specs.Altered.{untouched}
 
 abbrev pub resultOf : Step → Answered
 resultOf t = record { answer = t .answer; changes = t .altered .changes; count = t .altered .count }

@@ -14,20 +14,18 @@ use Rattle.accepted.specs.Refusal.{Accepted}
 use Rattle.model.specs.declared.Answer.{Answer}
 use Rattle.model.specs.State.{mostQueued, Intention, AgentState, Reply, reply}
 use Rattle.model.specs.Try.{Try, posted, attempt, tried}
-use Rattle.model.specs.Turn.{Move, fails, succeeds, tries, nextMove, heightOf, turn}
+use Rattle.model.specs.Turn.{tries, nextMove, heightOf, turn}
 use Rattle.state.specs.declared.Stack.{Stack}
 use Rattle.state.specs.declared.State.{State}
 use Rattle.state.specs.View.{mostBelow, viewStack, stackedOf, viewState, countsFit}
 use Rattle.moves.specs.declared.QueueMove.{QueueMove}
 use Rattle.moves.specs.Moves.{requeue}
-use Rattle.agent.specs.declared.changes.Altered.{Altered}
+use Rattle.trials.specs.declared.changes.Altered.{Altered}
 use Rattle.agent.specs.declared.step.Step.{Step}
-use Rattle.agent.specs.declared.turn.Decision.{Decision}
-use Rattle.agent.specs.declared.turn.Decision.the-variants.{Fail, Succeed, Attempt}
 use Rattle.agent.specs.View.{Sized}
 use Rattle.agent.specs.Gives.{Replies}
-use Rattle.agent.specs.Altered.{changesOf, Alters}
-use Rattle.agent.specs.Trial.{changesBy}
+use Rattle.trials.specs.Altered.{changesOf, Alters}
+use Rattle.trials.specs.Trial.{changesBy}
 use Rattle.agent.specs.Step.{applied}
 
 -- the stack as the model has it, with its place
@@ -104,8 +102,3 @@ abbrev pub Turns : List ℕ → Beliefs → ℕ → Stack → Step → Type 0
 Turns bytes beliefs place stack t =
     (s : State) → Turnable bytes s beliefs place stack
     → Replies (turn (libraryOf bytes) (viewState s) (placed place stack)) (applied s t)
-
-abbrev pub viewDecision : Decision → Move
-viewDecision Fail = fails
-viewDecision Succeed = succeeds
-viewDecision (Attempt b) = tries b

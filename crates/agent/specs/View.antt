@@ -1,15 +1,13 @@
 -- What a result and a state mean together: the model's reply. What stands where in a state.
 use Prim.Native.Nat.{ℕ}
 use mathlib.Core.Path.{_≡_}
-use mathlib.Core.Bool.{false}
 use mathlib.Core.List.{[], _∷_}
 use lib.ListN.{length, getD}
-use Rattle.belief.specs.declared.Change.{Change}
-use Rattle.library.specs.Plan.{noLiteral}
 use Rattle.model.specs.declared.Answer.{Answer}
 use Rattle.model.specs.declared.Answered.{Answered}
 use Rattle.model.specs.declared.Event.{Event}
 use Rattle.model.specs.State.{mostStacks, mostQueued, Reply, viewResult, noEvent}
+use Rattle.trials.specs.Altered.{noChange}
 use Rattle.state.specs.declared.Stack.{Stack}
 use Rattle.state.specs.declared.State.{State}
 use Rattle.state.specs.View.{noStack, viewState}
@@ -19,10 +17,6 @@ use Rattle.agent.specs.declared.Acted.{Acted}
 
 abbrev pub viewActed : Acted → Reply
 viewActed a = record { result = viewResult (a .result); state = viewState (a .state) }
-
--- what stands where no change is
-abbrev pub noChange : Change
-noChange = record { removes = false; literal = noLiteral }
 
 -- an answer with no changes
 abbrev pub plain : Answer → Answered

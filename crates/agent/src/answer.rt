@@ -2,11 +2,11 @@
 ghost use mathlib.Core.Path.{_≡_};
 ghost use Rattle.agent.specs.View.{plain, plainly};
 use crate::Acted;
-use crate::changes;
 use model::Answer;
 use model::Answered;
 use model::MOST_CHANGES;
 use state::State;
+use trials::changes;
 
 // An answer with no changes.
 pub fn plain_result(answer: Answer) -> Answered

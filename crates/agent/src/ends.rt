@@ -7,8 +7,6 @@ ghost use Rattle.model.specs.Instance.{pastBranch};
 ghost use Rattle.model.specs.End.{servedBy, popped, succeed, fail};
 ghost use Rattle.state.specs.View.{mostBelow, viewStack};
 ghost use Rattle.agent.specs.Turnable.{placed, Runnable, Ended, Ends};
-use crate::changes;
-use crate::changes::Altered;
 use crate::step::Step;
 use belief::Beliefs;
 use jobs::instance;
@@ -20,6 +18,8 @@ use moves::StackMove;
 use state::Stack;
 use state::origin;
 use state::stacks;
+use trials::changes;
+use trials::changes::Altered;
 
 // ---- The step
 

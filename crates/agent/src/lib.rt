@@ -5,7 +5,6 @@ use state::State;
 
 pub mod answer; // what a call answers
 pub mod calls; // report, cycle and outcome
-mod changes; // belief changes of a call
 mod cycle; // one cycle
 mod ends; // success and failure
 mod event; // taking up a pending event
@@ -15,7 +14,6 @@ mod outcome; // the outcome of an external action
 mod report; // a report of a device
 mod respond; // what a line or a call gives
 mod step; // what a call decides
-mod tries; // trying a branch
 mod turn; // the turn of a stack
 
 // The state after a call, and its result.

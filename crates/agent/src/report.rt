@@ -7,10 +7,8 @@ ghost use Rattle.belief.specs.Beliefs.{mostBeliefs, view};
 ghost use Rattle.model.specs.State.{mostNumber, mostQueued};
 ghost use Rattle.model.specs.Live.{isExternal};
 ghost use Rattle.model.specs.Report.{isReportable, isOverfull, reportRefusal, reportChanges, newEvent};
-ghost use Rattle.agent.specs.Altered.{Alters};
+ghost use Rattle.trials.specs.Altered.{Alters};
 ghost use Rattle.agent.specs.Report.{heard, TakesIn, Reports};
-use crate::changes;
-use crate::changes::Altered;
 use crate::step;
 use crate::step::Step;
 use belief::Beliefs;
@@ -28,6 +26,8 @@ use moves::QueueMove;
 use moves::StackMove;
 use state::MOST_QUEUED;
 use state::origin;
+use trials::changes;
+use trials::changes::Altered;
 
 // Refusals of a report, in the order of the tests.
 const MALFORMED: u16 = 5;
@@ -118,16 +118,13 @@ fn refusal_of(
 
 // What the report does to the beliefs.
 fn believed(b: Beliefs, kind: u16, l: Literal) -> Altered
-    requires { ⌜ b .count ≤ mostBeliefs ⌝ }
     ensures { λ r. ⌜ Alters b (reportChanges (view b) kind l) r ⌝ }
 {
-    let t = changes::unaltered(b);
     if TOLD <= kind {
-        return t;
+        return changes::unaltered(b);
     }
     let c = changes::change_of(kind, l);
-    let applied = changes::with_change(b, c);
-    changes::noted(t, c, applied)
+    changes::one_change(b, c)
 }
 
 fn new_event(number: u16, kind: u16, l: Literal) -> Event
@@ -143,7 +140,7 @@ fn new_event(number: u16, kind: u16, l: Literal) -> Event
 
 // The report is taken in.
 fn taken_in(b: Beliefs, taken: Number, kind: u16, l: Literal) -> Step
-    requires { ⌜ (b .count ≤ mostBeliefs) × (taken < mostNumber) ⌝ }
+    requires { ⌜ taken < mostNumber ⌝ }
     ensures { λ r. ⌜ TakesIn b taken kind l r ⌝ }
 {
     let altered = believed(b, kind, l);

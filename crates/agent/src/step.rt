@@ -2,8 +2,6 @@
 ghost use mathlib.Core.Path.{_≡_};
 ghost use Rattle.agent.specs.Step.{resultOf, plainStep, applied, Rests};
 use crate::Acted;
-use crate::changes;
-use crate::changes::Altered;
 use belief::Beliefs;
 use model::Answer;
 use model::Answered;
@@ -17,6 +15,8 @@ use moves::stacks;
 use state::MOST_BELOW;
 use state::Stack;
 use state::State;
+use trials::changes;
+use trials::changes::Altered;
 
 // The answer, the belief table after the changes, the moves of queue and stacks with the stack that is put, and a new number.
 pub struct Step {

@@ -1,25 +1,19 @@
 // The turn of a stack: what its top does, and the step for it.
 ghost use mathlib.Core.Path.{_≡_};
-ghost use Prim.Native.Nat.{_<_, _≤_};
-ghost use Rattle.belief.specs.Beliefs.{mostBeliefs, view};
-ghost use Rattle.library.specs.Layout.{planCount, libraryOf};
+ghost use Prim.Native.Nat.{_≤_};
 ghost use Rattle.model.specs.Instance.{tryNext};
 ghost use Rattle.model.specs.Try.{missed, stepped, done, posted};
-ghost use Rattle.model.specs.Turn.{nextMove};
 ghost use Rattle.state.specs.View.{mostBelow};
-ghost use Rattle.agent.specs.Altered.{changesOf};
-ghost use Rattle.agent.specs.Trial.{viewTrial};
-ghost use Rattle.agent.specs.Turnable.{Runnable, Tried, TriesBranch, Turns, viewDecision};
-use crate::changes::Altered;
+ghost use Rattle.trials.specs.Altered.{changesOf};
+ghost use Rattle.trials.specs.Trial.{viewTrial};
+ghost use Rattle.agent.specs.Turnable.{Runnable, Tried, TriesBranch, Turns};
 use crate::ends;
 use crate::step::Step;
-use crate::tries;
-use crate::tries::Outcome;
-use crate::tries::Trial;
 use belief::Beliefs;
+use jobs::decision;
+use jobs::decision::Decision;
 use jobs::instance;
 use library::Branch;
-use library::plan;
 use literal::Env;
 use literal::Literal;
 use model::Answer;
@@ -30,13 +24,10 @@ use model::Status;
 use moves::QueueMove;
 use state::Stack;
 use state::stacks;
-
-// What an instance does at its turn.
-pub enum Decision {
-    Fail,
-    Succeed,
-    Attempt(Branch),
-}
+use trials::changes::Altered;
+use trials::tries;
+use trials::tries::Outcome;
+use trials::tries::Trial;
 
 // ---- What came of a branch
 
@@ -153,7 +144,7 @@ fn on_trial(place: usize, stack: Stack, branch: Branch, trial: Trial) -> Step
 
 // The next branch of the top of a stack.
 fn try_branch(b: Beliefs, place: usize, stack: Stack, branch: Branch) -> Step
-    requires { ⌜ (b .count ≤ mostBeliefs) × ((stack .depth ≤ mostBelow) × (stack .top .tried ≤ 4)) ⌝ }
+    requires { ⌜ (stack .depth ≤ mostBelow) × (stack .top .tried ≤ 4) ⌝ }
     ensures { λ r. ⌜ TriesBranch b place stack branch r ⌝ }
 {
     let x = stack.top;
@@ -165,35 +156,13 @@ fn try_branch(b: Beliefs, place: usize, stack: Stack, branch: Branch) -> Step
 
 // ---- The turn
 
-// Maintenance does not hold: fail; an end state: succeed; no untried branch: fail; otherwise the next branch.
-fn next_move(library: &[u8], b: Beliefs, x: Instance) -> Decision
-    requires { ⌜ x .plan < planCount (now library) ⌝ }
-    ensures { λ r. ⌜ viewDecision r ≡ nextMove (libraryOf (now (library .entry))) (view b) x ⌝ }
-{
-    let plan = x.plan as usize;
-    let env = x.env;
-    let maintenance = plan::maintenance_offset(library, plan);
-    if !situation::holds(library, maintenance, b, env) {
-        return Decision::Fail; // in an end state too
-    }
-    let count = plan::branch_count(library, plan, x.state as usize);
-    if count == 0 {
-        return Decision::Succeed;
-    }
-    if count <= x.tried {
-        return Decision::Fail;
-    }
-    let branch = plan::branch(library, plan, x.state as usize, x.tried as usize);
-    Decision::Attempt(branch)
-}
-
 // The turn of the stack at a place.
 pub(crate) fn turn(library: &[u8], b: Beliefs, place: usize, stack: Stack) -> Step
     requires { ⌜ Runnable (now library) b stack ⌝ }
     ensures { λ r. ⌜ Turns (now (library .entry)) b place stack r ⌝ }
 {
     let x = stack.top;
-    let decision = next_move(library, b, x);
+    let decision = decision::next_move(library, b, x);
     match decision {
         Decision::Fail => ends::fail(library, b, place, stack),
         Decision::Succeed => ends::succeed(library, b, place, stack),

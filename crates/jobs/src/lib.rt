@@ -15,6 +15,7 @@ use state::MOST_STACKS;
 use state::Stack;
 use state::origin::goal_of;
 
+pub mod decision; // what an instance does at its turn
 pub mod instance; // an instance moves on
 pub mod place; // what an instance's plan says at its place
 

@@ -14,7 +14,7 @@ use Rattle.belief.specs.declared.Beliefs.{Beliefs}
 use Rattle.belief.specs.declared.Change.{Change}
 use Rattle.belief.specs.Beliefs.{view, areBeliefs, change, replay}
 use Rattle.belief.specs.Table.{add, remove}
-use Rattle.belief.proofs.BeliefLaws.{table-parts, table-both, replay-join}
+use Rattle.belief.proofs.BeliefLaws.{table-both, replay-join}
 use Rattle.library.specs.Layout.{libraryOf, beliefsOf}
 use Rattle.accepted.specs.Refusal.{refusalOf}
 use Rattle.model.specs.State.{AgentState, Call, Reply, viewResult}
@@ -32,7 +32,7 @@ use Rattle.agent.specs.Calls.{isWellFormedAgent, viewReplied, Calls}
 use Rattle.agent.specs.Chain.{Link, Chain}
 use Rattle.agent.specs.Chain as Chain
 use Rattle.agent.proofs.CallsLaws.{test-parts}
-use Rattle.agent.proofs.AlteredLaws.{change-removes, change-adds}
+use Rattle.trials.proofs.AlteredLaws.{change-removes, change-adds}
 use Rattle.change.specs.declared.Changed.{Changed}
 use Rattle.change.specs.Changes.{step, steps, changed}
 use Rattle.change.proofs.ChangeLaws.{passed-open, Sound, step-sound, steps-sound, changed-sound}
@@ -104,12 +104,9 @@ module _ (table : Beliefs) (h : Sound table) (c : Change) where
   unfolding effective replay
   step-view = by-cases (isGround (c .literal))
       (λ g. by-cases (c .removes)
-      (λ r. ap view (step-removes g r) ∙ change-removes table c few (h .places) g r .table)
-      (λ r. ap view (step-adds g r) ∙ change-adds table c few (h .places) g r .table))
+      (λ r. ap view (step-removes g r) ∙ change-removes table c (h .places) g r .table)
+      (λ r. ap view (step-adds g r) ∙ change-adds table c (h .places) g r .table))
       (λ g. ap view (passed-open table c g) ∙ rw g)
-    where
-      few : table .count ≤ 64
-      few = table-parts table (h .places) (h .rules) .0
 
   -- so one that takes effect is applied
   step-effect : (isGround (c .literal) && alters (view table) c) ≡ true → view (step table c) ≡ change (view table) c

@@ -1,7 +1,9 @@
 -- `agent::ends::succeed` meets its contract: the list runs, the event is closed, and the poster below steps past its goal.
 use borrow.Author.Needs.{needs}
 use denote.Ref.{now}
-use mathlib.Core.Path.{refl, subst⁻¹, _∙_}
+use mathlib.Core.Path.{_≡_, refl, subst⁻¹, _∙_}
+use lib.ListN.{take}
+use lib.Seq.{take-all}
 use Rattle.belief.specs.declared.Beliefs.{Beliefs}
 use Rattle.belief.specs.Beliefs.{view}
 use Rattle.library.specs.Layout.{planCount, libraryOf}
@@ -16,7 +18,7 @@ use Rattle.state.specs.View.{viewStack, viewQueue}
 use Rattle.jobs.proofs.PlaceLaws.{plan-there}
 use Rattle.moves.specs.declared.QueueMove.the-variants as queue
 use Rattle.moves.specs.Moves.{requeue}
-use Rattle.agent.specs.Altered.{Alters}
+use Rattle.trials.specs.Altered.{Alters}
 use Rattle.agent.proofs.GivesLaws.{replies-as}
 use Rattle.agent.proofs.TurnLaws.{close-requeues, ended-after}
 use Rattle.agent.proofs.ends.succeed.Statement.{statement}
@@ -26,11 +28,7 @@ cast-list-run : tie.Need-cast-list-run
 cast-list-run c = search needs
 
 list-run-requires : tie.Need-list-run-requires
-list-run-requires c κs =
-    let a = (c .before .before .before .before .args) in
-    let plan = a .stack .top .plan in
-    let bytes = now (a .library) in
-    (few-actions (layout.planOf bytes plan .success) (keeps bytes ((c .before .before .before .before .pre) .accepted) plan ((c .before .before .before .before .pre) .plan) .success), (c .before .before .before .before .pre) .few)
+list-run-requires c κs = search needs
 
 served-by-requires : tie.Need-served-by-requires
 served-by-requires c κs = search needs
@@ -45,13 +43,17 @@ returns c = λ s e stands.
     let x = a .stack .top in
     let bytes = now (a .library) in
     let actions = planOf (libraryOf bytes) x .success in
-    let alters : Alters (a .b) (effects (view (a .b)) (x .env) actions) ((c .before .before .list-run) .result) = rw (plan-there bytes x (planCount bytes) refl ((c .before .before .before .before .before .before .before .pre) .plan)) ((c .before .before .list-run) .ensures) in
+    let pre = (c .before .before .before .before .before .before .before .pre) in
+    let listed = layout.planOf bytes (x .plan) .success in
+    let all : take 4 listed ≡ listed = take-all 4 listed (few-actions listed (keeps bytes (pre .accepted) (x .plan) (pre .plan) .success)) in
+    let alters : Alters (a .b) (effects (view (a .b)) (x .env) actions) ((c .before .before .list-run) .result)
+    = rw (plan-there bytes x (planCount bytes) refl (pre .plan)) (rw all at ((c .before .before .list-run) .ensures)) in
     let here = subst⁻¹ (λ (b : Beliefs). Alters b (effects (view b) (x .env) actions) ((c .before .before .list-run) .result)) e alters in
     let q = close-requeues s (a .place) stands ((c .before .served-by) .result) in
     replies-as (ended-after s (requeue (queue.Close ((c .before .served-by) .result)) s) (a .place) (a .stack) (popped (a .stack .external) (pastBranch (libraryOf bytes)) (viewStack (a .stack) .below)) (Succeeded (x .id))
     (effects (view (s .beliefs)) (x .env) actions) (closeEvent ((c .before .served-by) .result) (viewQueue s)) ((c .before .before .list-run) .result) here (q .shown)
     ∙ rw ((c .before .served-by) .ensures))
-    ((c .raised) .ensures s (q .standing) (here .few))
+    ((c .raised) .ensures s (q .standing) (alters .few (pre .few)))
 
 pub succeed-spec : {M : Type 1} → statement M
 succeed-spec =

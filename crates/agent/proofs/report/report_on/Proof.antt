@@ -20,7 +20,7 @@ returns c = λ s h p.
 taken-in-requires : tie.Need-taken-in-requires
 taken-in-requires c κs =
     let a = (c .before .before .args) in
-    ((c .before .before .pre), number-left (a .b) (a .events) (a .queued) (a .taken) (a .kind) (a .l) ((c .before .refusal-of) .result) ((c .before .refusal-of) .ensures) ((c .if1) .left))
+    number-left (a .b) (a .events) (a .queued) (a .taken) (a .kind) (a .l) ((c .before .refusal-of) .result) ((c .before .refusal-of) .ensures) ((c .if1) .left)
 
 returns-2 : tie.Need-returns-2
 returns-2 c = λ s h p.

@@ -6,16 +6,16 @@ use mathlib.Core.Path.{ap, sym, subst⁻¹}
 use Rattle.belief.specs.declared.Beliefs.{Beliefs}
 use Rattle.belief.specs.Beliefs.{view}
 use Rattle.model.specs.Report.{reportChanges}
-use Rattle.agent.specs.Altered.{Alters}
+use Rattle.trials.specs.Altered.{Alters}
 use Rattle.agent.proofs.ReportLaws.{taken-in}
 use Rattle.agent.proofs.report.taken_in.Statement.{statement}
 use Rattle.agent.proofs.report.taken_in.Tie as tie
 
 believed-requires : tie.Need-believed-requires
-believed-requires c κs = (c .pre) .0
+believed-requires c κs = search needs
 
 add-number : tie.Need-add-number
-add-number c = omega (arith, (c .before .pre) .1)
+add-number c = omega (arith, (c .before .pre))
 
 new-event-requires : tie.Need-new-event-requires
 new-event-requires c κs = search needs

@@ -6,6 +6,7 @@ use Rattle.model.specs.declared.Answer.the-variants.{Missed}
 use Rattle.model.specs.declared.Instance.{Instance}
 use Rattle.model.specs.Try.{withTop, tried}
 use Rattle.state.specs.View.{viewStack, viewQueue, viewState}
+use Rattle.state.proofs.CountParts.{counts-parts}
 use Rattle.agent.specs.Turnable.{ended}
 use Rattle.agent.proofs.GivesLaws.{replies-as}
 use Rattle.agent.proofs.TurnLaws.{ended-after}
@@ -24,7 +25,7 @@ returns c = λ s stands alters room.
     let a = (c .before .before .before .before .args) in
     replies-as (ap (λ (x : Instance). ended (viewState s) (a .place) (withTop (viewStack (a .stack)) x ∷ []) (Missed (a .stack .top .id) (a .stack .top .state) (a .stack .top .tried)) (a .altered)) ((c .before .before .with-try) .ensures)
     ∙ ended-after s s (a .place) (a .stack) _ _ [] (viewQueue s) (a .altered) alters refl)
-    ((c .turned) .ensures s stands (alters .few))
+    ((c .turned) .ensures s stands (alters .few (counts-parts s (stands .counts) .beliefs)))
 
 pub on-missed-spec : {M : Type 1} → statement M
 on-missed-spec = tie.close (tie.spec with-try-requires turned-requires returns)

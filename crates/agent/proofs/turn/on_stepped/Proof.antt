@@ -6,10 +6,11 @@ use Rattle.model.specs.declared.Answer.the-variants.{Stepped}
 use Rattle.model.specs.declared.Instance.{Instance}
 use Rattle.model.specs.Try.{withTop, tried}
 use Rattle.state.specs.View.{viewStack, viewQueue, viewState}
+use Rattle.state.proofs.CountParts.{counts-parts}
 use Rattle.agent.specs.Turnable.{ended}
 use Rattle.agent.proofs.GivesLaws.{replies-as}
 use Rattle.agent.proofs.TurnLaws.{ended-after}
-use Rattle.agent.specs.Altered.{changesOf}
+use Rattle.trials.specs.Altered.{changesOf}
 use Rattle.agent.proofs.turn.on_stepped.Statement.{statement}
 use Rattle.agent.proofs.turn.on_stepped.Tie as tie
 
@@ -25,7 +26,7 @@ returns c = λ s stands alters room.
     let a = (c .before .before .before .before .args) in
     replies-as (ap (λ (x : Instance). ended (viewState s) (a .place) (withTop (viewStack (a .stack)) x ∷ []) (Stepped (a .stack .top .id) (a .stack .top .state) (a .stack .top .tried) (a .branch .next)) (a .altered)) ((c .before .before .stepped-to) .ensures)
     ∙ ended-after s s (a .place) (a .stack) _ _ (changesOf (a .altered)) (viewQueue s) (a .altered) alters refl)
-    ((c .turned) .ensures s stands (alters .few))
+    ((c .turned) .ensures s stands (alters .few (counts-parts s (stands .counts) .beliefs)))
 
 pub on-stepped-spec : {M : Type 1} → statement M
 on-stepped-spec = tie.close (tie.spec stepped-to-requires turned-requires returns)

@@ -9,8 +9,8 @@ use Rattle.model.specs.Try.{Try, attempt, tried}
 use Rattle.model.specs.Turn.{heightOf}
 use Rattle.state.specs.View.{depthOf, viewStack, viewState}
 use Rattle.state.proofs.StackLaws.{length-down}
-use Rattle.agent.specs.Altered.{Alters}
-use Rattle.agent.specs.Trial.{viewTrial, changesBy, Tries}
+use Rattle.trials.specs.Altered.{Alters}
+use Rattle.trials.specs.Trial.{viewTrial, changesBy, Tries}
 use Rattle.agent.specs.Turnable.{placed}
 use Rattle.agent.proofs.GivesLaws.{replies-as}
 use Rattle.agent.proofs.turn.try_branch.Statement.{statement}
@@ -23,10 +23,10 @@ add-height : tie.Need-add-height
 add-height c = search needs
 
 attempt-requires : tie.Need-attempt-requires
-attempt-requires c κs = (c .before .before .before .pre) .0
+attempt-requires c κs = search needs
 
 on-trial-requires : tie.Need-on-trial-requires
-on-trial-requires c κs = (c .before .before .before .before .pre) .1
+on-trial-requires c κs = (c .before .before .before .before .pre)
 
 returns : tie.Need-returns
 returns c = λ s e stands room.

@@ -3,13 +3,13 @@ use borrow.Author.Needs.{needs}
 use denote.Ref.{now}
 use mathlib.Core.Path.{ap, sym, _∙_}
 use Rattle.model.specs.Turn.{turnBy, turn}
-use Rattle.agent.specs.Turnable.{viewDecision}
+use Rattle.jobs.specs.Decision.{viewDecision}
 use Rattle.agent.proofs.TurnLaws.{turns-by, turns-tried}
 use Rattle.agent.proofs.turn.turn.Statement.{statement}
 use Rattle.agent.proofs.turn.turn.Tie as tie
 
 next-move-requires : tie.Need-next-move-requires
-next-move-requires c κs = (c .before .before .pre) .plan
+next-move-requires c κs = search needs
 
 enum-told : tie.Need-enum-told
 enum-told c = search needs
@@ -27,7 +27,7 @@ enum-known-decision : tie.Need-enum-known-decision
 enum-known-decision c = search needs
 
 try-branch-requires : tie.Need-try-branch-requires
-try-branch-requires c κs = ((c .before .before .before .before .before .before .pre) .few, ((c .before .before .before .before .before .before .pre) .depth, (c .before .before .before .before .before .before .pre) .tried))
+try-branch-requires c κs = ((c .before .before .before .before .before .before .pre) .depth, (c .before .before .before .before .before .before .pre) .tried)
 
 returns : tie.Need-returns
 unfolding turnBy

@@ -1,0 +1,2 @@
+pub mod AlteredLaws
+pub mod TrialLaws
