@@ -13,7 +13,7 @@ use Rattle.model.specs.State.{Call}
 use Rattle.state.specs.declared.State.{State}
 use Rattle.state.specs.View.{countsFit}
 use Rattle.formed.specs.Formed.{isStateFormed, isFormed}
-use Rattle.agent.specs.declared.Acted.{Acted}
+use Rattle.steps.specs.declared.Acted.{Acted}
 use Rattle.load.specs.declared.Agent.{Agent}
 use Rattle.agent.specs.declared.Replied.{Replied}
 use Rattle.agent.specs.Cycle.{WellFormedState}

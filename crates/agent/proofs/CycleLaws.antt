@@ -26,11 +26,11 @@ use Rattle.model.specs.Calls.{isRefusal}
 use Rattle.state.specs.declared.State.{State}
 use Rattle.state.specs.View.{noStack, viewStack, queuedOf, stackedOf, viewQueue, viewStacks, viewState, countsFit}
 use Rattle.state.proofs.ViewLaws.{length-queue, length-stacks, stack-at}
-use Rattle.agent.specs.declared.Acted.{Acted}
-use Rattle.agent.specs.View.{plainly, eventAt, stackAt}
-use Rattle.agent.specs.Gives.{Replies, Gives}
+use Rattle.steps.specs.declared.Acted.{Acted}
+use Rattle.steps.specs.View.{plainly, eventAt, stackAt}
+use Rattle.steps.specs.Gives.{Replies, Gives}
 use Rattle.agent.specs.Turnable.{placed}
-use Rattle.agent.proofs.GivesLaws.{gives-as, gives-same, gives-answer}
+use Rattle.steps.proofs.GivesLaws.{gives-as, gives-same, gives-answer}
 
 -- ---- A turn is never refused
 

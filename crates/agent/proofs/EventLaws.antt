@@ -36,13 +36,13 @@ use Rattle.state.proofs.StateLaws.{dequeue-state, open-state, put-frame}
 use Rattle.moves.specs.declared.QueueMove.the-variants as queue
 use Rattle.moves.specs.declared.StackMove.the-variants as stacks
 use Rattle.moves.specs.declared.Numbering.the-variants as numbering
-use Rattle.agent.specs.declared.step.Step.{Step}
-use Rattle.agent.specs.View.{Sized, stackAt}
-use Rattle.agent.specs.Gives.{Replies}
-use Rattle.agent.specs.Step.{plainStep, applied}
-use Rattle.agent.specs.TakeUp.{posterIn, HasPoster, openedStack, openedStep, Pushes, Drops, unmetStep, Has, Makes, Closes}
-use Rattle.agent.proofs.CountLaws.{counts-dequeue, counts-open, counts-put}
-use Rattle.agent.proofs.StepLaws.{step-replies, sized-dequeue}
+use Rattle.steps.specs.declared.step.Step.{Step}
+use Rattle.steps.specs.View.{Sized, stackAt}
+use Rattle.steps.specs.Gives.{Replies}
+use Rattle.steps.specs.Step.{openedStack, plainStep, applied}
+use Rattle.agent.specs.TakeUp.{posterIn, HasPoster, openedStep, Pushes, Drops, unmetStep, Has, Makes, Closes}
+use Rattle.steps.proofs.CountLaws.{counts-dequeue, counts-open, counts-put}
+use Rattle.steps.proofs.StepLaws.{step-replies, sized-dequeue}
 
 -- ---- From the parts of a state to the state
 

@@ -20,10 +20,10 @@ use Rattle.state.specs.declared.State.{State}
 use Rattle.state.specs.View.{viewState, countsFit}
 use Rattle.formed.specs.Formed.{isStateFormed, isFormed}
 use Rattle.printing.specs.LineText.{resultText}
-use Rattle.agent.specs.declared.Acted.{Acted}
+use Rattle.steps.specs.declared.Acted.{Acted}
 use Rattle.load.specs.declared.Agent.{Agent}
-use Rattle.agent.specs.View.{viewActed, plainly}
-use Rattle.agent.specs.Gives.{Gives}
+use Rattle.steps.specs.View.{viewActed, plainly}
+use Rattle.steps.specs.Gives.{Gives}
 use Rattle.load.specs.Load.{bytesOf}
 use Rattle.agent.specs.Cycle.{WellFormedState}
 use Rattle.agent.specs.Calls.{isWellFormedWith, isWellFormedAgent}

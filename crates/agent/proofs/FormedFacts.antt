@@ -54,12 +54,12 @@ use Rattle.state.specs.declared.State.{State}
 use Rattle.state.specs.View.{noStack, depthOf, viewStack, queuedOf, stackedOf, viewQueue, viewStacks, viewState, countsFit}
 use Rattle.state.proofs.ViewLaws.{length-queue, length-stacks, stack-at}
 use Rattle.state.proofs.StackLaws.{length-down}
-use Rattle.agent.specs.Report.{Hears}
+use Rattle.steps.specs.Report.{Hears}
 use Rattle.agent.specs.TakeUp.{posterIn, HasPoster, HasPlace}
 use Rattle.agent.specs.Turnable.{Runnable, Turnable}
-use Rattle.agent.specs.View.{Sized, eventAt, stackAt}
+use Rattle.steps.specs.View.{Sized, eventAt, stackAt}
 use Rattle.state.proofs.CountParts.{counts-parts}
-use Rattle.agent.proofs.CountLaws.{counts-depth}
+use Rattle.steps.proofs.CountLaws.{counts-depth}
 
 -- a goal is posted only from a stack with room
 change-posts : {P : Type 0} (env : Env) (changes : List Change) (goal : Literal) (b : Bool) → cond b (stepped env changes) missed ≡ posted goal → P

@@ -1,10 +1,5 @@
-pub mod GivesLaws
-pub mod OutcomeLaws
 pub mod EventLaws
 pub mod TakeUpLaws
-pub mod ReportLaws
-pub mod CountLaws
-pub mod StepLaws
 pub mod TurnLaws
 pub mod FormedFacts
 pub mod CycleLaws

@@ -15,7 +15,7 @@ use Rattle.model.specs.declared.Answer.{Answer}
 use Rattle.model.specs.declared.Answer.the-variants.{Idle, Refused}
 use Rattle.model.specs.State.{Call, cycle, outcome}
 use Rattle.model.specs.Live.{live, isReady}
-use Rattle.model.specs.Outcome.{isAwaiting}
+use Rattle.model.specs.Outcome.{isAwaiting, told}
 use Rattle.model.specs.Turn.{isRunning, turn}
 use Rattle.model.specs.Calls.{act}
 use Rattle.model.specs.Formed.{WellFormed}
@@ -29,17 +29,17 @@ use Rattle.state.proofs.ViewLaws.{length-queue, length-stacks}
 use Rattle.state.proofs.CountParts.{counts-parts}
 use Rattle.agent.specs.declared.look.Look.{Look}
 use Rattle.agent.specs.declared.look.Look.the-variants as look
-use Rattle.agent.specs.declared.step.Step.{Step}
-use Rattle.agent.specs.View.{Sized, plainly, stackAt}
-use Rattle.agent.specs.Gives.{Replies}
+use Rattle.steps.specs.declared.step.Step.{Step}
+use Rattle.steps.specs.View.{Sized, plainly, stackAt}
+use Rattle.steps.specs.Gives.{Replies, Gives}
 use Rattle.agent.specs.Turnable.{placed, Runnable, Turnable, Turns}
-use Rattle.agent.specs.Outcome.{Tells}
-use Rattle.agent.specs.Step.{applied}
+use Rattle.steps.specs.Outcome.{toldStep, Awaits}
+use Rattle.steps.specs.Step.{applied}
 use Rattle.agent.specs.Cycle.{WellFormedState}
 use Rattle.agent.specs.Feed.{Trusted, Responds}
 use Rattle.agent.specs.Look.{viewed, mayTakeUp, Answers, unformed, unread, idle, unawaited, Looks, Looked, placeOf}
 use Rattle.agent.proofs.CycleLaws.{cycled-turn, cycled-idle}
-use Rattle.agent.proofs.OutcomeLaws.{told-refused}
+use Rattle.steps.proofs.OutcomeLaws.{told-gives, told-refused}
 use Rattle.agent.proofs.FormedFacts.{runnable, turnable}
 use Rattle.agent.proofs.FeedLaws.{responds-act, responds-unread, responds-refused, responds-as}
 
@@ -107,17 +107,14 @@ module _ (bytes : List ℕ) (s : State) (sized : Sized s) where
           responds-act bytes s cycle (applied s t) (cycled-turn bytes s (sized .queue) (sized .stacks) next refl (none-taken e) place f there (applied s t) own)
 
       pub tell-responds : (id : ℕ) (worked : Bool) → place ≡ position (isAwaiting id) (viewStacks s)
-          → (t : Step) → Tells (libraryOf bytes) (s .beliefs) place stack worked t → Responds bytes true s (some (outcome id worked)) (applied s t)
+          → (t : Step) → t ≡ toldStep (libraryOf bytes) (s .beliefs) place stack worked → Responds bytes true s (some (outcome id worked)) (applied s t)
       unfolding act
-      tell-responds id worked f t tells =
-          responds-act bytes s (outcome id worked) (applied s t) (tells s id (record {
-            sized = sized;
-            fit = w .fit;
-            beliefs-are = refl;
-            found = f;
-            there = omega (arith, within, low);
-            stack-is = sym is;
-          }))
+      tell-responds id worked f t e =
+          let awaits : Awaits s (s .beliefs) id place stack =
+          record { sized = sized; fit = w .fit; beliefs-are = refl; found = f; there = omega (arith, within, low); stack-is = sym is } in
+          responds-act bytes s (outcome id worked) (applied s t)
+          (subst⁻¹ (λ (u : Step). Gives s (told (libraryOf bytes) (viewState s) id worked) (applied s u)) e
+          (told-gives (libraryOf bytes) s (s .beliefs) id place stack awaits worked))
 
   -- ---- What leaves it as it is
 

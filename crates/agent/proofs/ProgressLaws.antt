@@ -18,7 +18,7 @@ use Rattle.stream.specs.declared.Next.the-variants.{Line, Used}
 use Rattle.stream.specs.Carried.{begun, more}
 use Rattle.stream.specs.Calls.{callsFrom, nextLine, shown}
 use Rattle.stream.proofs.ChunkLaws.{line-ends, line-goes-on}
-use Rattle.agent.specs.declared.Acted.{Acted}
+use Rattle.steps.specs.declared.Acted.{Acted}
 use Rattle.agent.specs.Feed.{Responds, none-yet, then, Progress}
 
 module _ (bytes : List ℕ) (formed : Bool) (s : State) (carry : Carry) (chunk before : List ℕ) where

@@ -23,10 +23,10 @@ use Rattle.model.specs.Cycle.{choiceFor}
 use Rattle.model.specs.Calls.{isRefusal}
 use Rattle.state.specs.declared.State.{State}
 use Rattle.state.specs.View.{viewState, countsFit}
-use Rattle.agent.specs.declared.Acted.{Acted}
-use Rattle.agent.specs.View.{plainly}
-use Rattle.agent.specs.Gives.{Replies, Gives}
-use Rattle.agent.proofs.GivesLaws.{gives-as, gives-same, gives-answer}
+use Rattle.steps.specs.declared.Acted.{Acted}
+use Rattle.steps.specs.View.{plainly}
+use Rattle.steps.specs.Gives.{Replies, Gives}
+use Rattle.steps.proofs.GivesLaws.{gives-as, gives-same, gives-answer}
 
 -- ---- Neither way is a refusal
 

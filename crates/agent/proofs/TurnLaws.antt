@@ -41,17 +41,17 @@ use Rattle.moves.specs.declared.QueueMove.the-variants as queue
 use Rattle.moves.specs.declared.StackMove.the-variants as stacks
 use Rattle.moves.specs.declared.Numbering.the-variants as numbering
 use Rattle.moves.specs.Moves.{placeOf, requeue}
-use Rattle.agent.specs.declared.Acted.{Acted}
+use Rattle.steps.specs.declared.Acted.{Acted}
 use Rattle.trials.specs.declared.changes.Altered.{Altered}
-use Rattle.agent.specs.declared.step.Step.{Step}
-use Rattle.agent.specs.Gives.{Replies}
+use Rattle.steps.specs.declared.step.Step.{Step}
+use Rattle.steps.specs.Gives.{Replies}
 use Rattle.trials.specs.Altered.{Alters}
-use Rattle.agent.specs.View.{Sized}
-use Rattle.agent.specs.Step.{applied}
+use Rattle.steps.specs.View.{Sized}
+use Rattle.steps.specs.Step.{applied}
 use Rattle.agent.specs.Turnable.{placed, Standing, Turnable, ended}
-use Rattle.agent.proofs.GivesLaws.{replies-as}
-use Rattle.agent.proofs.CountLaws.{counts-enqueue, counts-dequeue, counts-put-event, counts-drop, counts-last}
-use Rattle.agent.proofs.StepLaws.{step-replies, put-past, sized-enqueue, sized-dequeue, sized-put}
+use Rattle.steps.proofs.GivesLaws.{replies-as}
+use Rattle.steps.proofs.CountLaws.{counts-enqueue, counts-dequeue, counts-put-event, counts-drop, counts-last}
+use Rattle.steps.proofs.StepLaws.{step-replies, put-past, sized-enqueue, sized-dequeue, sized-put}
 
 -- ---- The reply
 

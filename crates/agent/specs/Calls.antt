@@ -11,7 +11,7 @@ use Rattle.model.specs.Calls.{callBy, isRefusal}
 use Rattle.state.specs.declared.State.{State}
 use Rattle.state.specs.View.{viewState, countsFit}
 use Rattle.formed.specs.Formed.{isFormed}
-use Rattle.agent.specs.declared.Acted.{Acted}
+use Rattle.steps.specs.declared.Acted.{Acted}
 use Rattle.load.specs.declared.Agent.{Agent}
 use Rattle.agent.specs.declared.Replied.{Replied}
 use Rattle.load.specs.Load.{bytesOf}

@@ -17,12 +17,12 @@ use Rattle.printing.specs.Writing.{Wrote}
 use Rattle.stream.specs.declared.Carry.{Carry}
 use Rattle.stream.specs.Carried.{begun}
 use Rattle.stream.specs.Calls.{callsFrom}
-use Rattle.agent.specs.declared.Acted.{Acted}
+use Rattle.steps.specs.declared.Acted.{Acted}
 use Rattle.load.specs.declared.Agent.{Agent}
 use Rattle.agent.specs.declared.Replied.{Replied}
 use Rattle.agent.specs.declared.feed.Fed.{Fed}
 use Rattle.agent.specs.declared.feed.Ran.{Ran}
-use Rattle.agent.specs.View.{viewActed}
+use Rattle.steps.specs.View.{viewActed}
 use Rattle.agent.specs.Cycle.{WellFormedState}
 use Rattle.agent.specs.Calls.{isWellFormedWith, Calls}
 

@@ -1,8 +1,3 @@
-pub mod View
-pub mod Gives
-pub mod Outcome
-pub mod Step
-pub mod Report
 pub mod TakeUp
 pub mod Turnable
 pub mod Cycle

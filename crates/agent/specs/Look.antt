@@ -19,7 +19,7 @@ use Rattle.state.specs.View.{viewStack}
 use Rattle.state.specs.Search.{isAsleep}
 use Rattle.agent.specs.declared.look.Look.{Look}
 use Rattle.agent.specs.declared.look.Look.the-variants as look
-use Rattle.agent.specs.View.{plainly}
+use Rattle.steps.specs.View.{plainly}
 use Rattle.agent.specs.Feed.{refusalFor, Trusted, Responds}
 
 -- the stacks in use

@@ -3,7 +3,7 @@
 use Prim.Native.Nat.{ℕ, _+_, _<_, _≤_, min}
 use mathlib.Core.Path.{_≡_}
 use mathlib.Core.Bool.{true, false}
-use mathlib.Core.List.{List, [], _∷_, map}
+use mathlib.Core.List.{List, map}
 use lib.ListN.{take, getD}
 use Rattle.lists.specs.Search.{position}
 use Rattle.belief.specs.declared.Beliefs.{Beliefs}
@@ -12,7 +12,6 @@ use Rattle.situation.specs.Applicable.{Chosen}
 use Rattle.model.specs.declared.Answer.{Answer}
 use Rattle.model.specs.declared.Answer.the-variants.{Dropped, MadeExternal, MadeGoal}
 use Rattle.model.specs.declared.Event.{Event}
-use Rattle.model.specs.declared.Instance.{Instance}
 use Rattle.model.specs.declared.Origin.{Origin}
 use Rattle.model.specs.Instance.{awake}
 use Rattle.model.specs.State.{mostStacks, AgentState, Reply}
@@ -26,10 +25,10 @@ use Rattle.state.specs.Stacks.{replaceTop}
 use Rattle.moves.specs.declared.QueueMove.the-variants as queue
 use Rattle.moves.specs.declared.StackMove.the-variants as stacks
 use Rattle.moves.specs.declared.Numbering.the-variants as numbering
-use Rattle.agent.specs.declared.step.Step.{Step}
-use Rattle.agent.specs.View.{Sized}
-use Rattle.agent.specs.Gives.{Replies, Gives}
-use Rattle.agent.specs.Step.{plainStep, applied}
+use Rattle.steps.specs.declared.step.Step.{Step}
+use Rattle.steps.specs.View.{Sized}
+use Rattle.steps.specs.Gives.{Replies, Gives}
+use Rattle.steps.specs.Step.{openedStack, plainStep, applied}
 
 -- ---- What taking up an event needs
 
@@ -48,10 +47,6 @@ pub record HasPlace (stacks : List Stack) (stacked : ℕ) (origin : Origin) : Ty
   pub goal : isGoal origin ≡ true → HasPoster stacks stacked origin
 
 -- ---- The steps
-
--- a new stack for an external event
-abbrev pub openedStack : ℕ → Instance → Stack
-openedStack external x = record { top = x; below = x ∷ x ∷ x ∷ x ∷ x ∷ x ∷ x ∷ []; depth = 0; external = external }
 
 -- an instance for an external event, on a new stack last in turn
 abbrev pub openedStep : Beliefs → ℕ → Chosen → ℕ → Step

@@ -21,12 +21,12 @@ use Rattle.state.specs.View.{mostBelow, viewStack, stackedOf, viewState, counts
 use Rattle.moves.specs.declared.QueueMove.{QueueMove}
 use Rattle.moves.specs.Moves.{requeue}
 use Rattle.trials.specs.declared.changes.Altered.{Altered}
-use Rattle.agent.specs.declared.step.Step.{Step}
-use Rattle.agent.specs.View.{Sized}
-use Rattle.agent.specs.Gives.{Replies}
+use Rattle.steps.specs.declared.step.Step.{Step}
+use Rattle.steps.specs.View.{Sized}
+use Rattle.steps.specs.Gives.{Replies}
 use Rattle.trials.specs.Altered.{changesOf, Alters}
 use Rattle.trials.specs.Trial.{changesBy}
-use Rattle.agent.specs.Step.{applied}
+use Rattle.steps.specs.Step.{applied}
 
 -- the stack as the model has it, with its place
 abbrev pub placed : ℕ → Stack → Placed Intention

@@ -2,13 +2,13 @@
 ghost use mathlib.Core.Path.{_≡_};
 ghost use Rattle.model.specs.State.{report, cycle, outcome};
 ghost use Rattle.agent.specs.Calls.{withState, Calls};
-use crate::Acted;
 use crate::Replied;
 use crate::respond;
 use literal::Literal;
 use load::Agent;
 use model::Number;
 use reading::Spoken;
+use steps::Acted;
 
 // The agent with another state, and the result.
 fn replied(a: Agent, acted: Acted) -> Replied

@@ -2,18 +2,18 @@
 ghost use Rattle.library.specs.Layout.{libraryOf};
 ghost use Rattle.model.specs.Cycle.{cycled};
 ghost use Rattle.state.specs.View.{viewState};
-ghost use Rattle.agent.specs.Gives.{Gives};
-ghost use Rattle.agent.specs.Step.{applied};
+ghost use Rattle.steps.specs.Gives.{Gives};
+ghost use Rattle.steps.specs.Step.{applied};
 ghost use Rattle.agent.specs.Cycle.{WellFormedState};
 use crate::event;
-use crate::step;
-use crate::step::Step;
 use crate::turn;
 use model::Answer;
 use state::State;
 use state::queue;
 use state::search;
 use state::stacks;
+use steps::step;
+use steps::step::Step;
 
 // One cycle, on a well-formed state of an accepted library.
 pub(crate) fn cycle_on(library: &[u8], s: State) -> Step

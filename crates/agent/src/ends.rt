@@ -7,7 +7,6 @@ ghost use Rattle.model.specs.Instance.{pastBranch};
 ghost use Rattle.model.specs.End.{servedBy, popped, succeed, fail};
 ghost use Rattle.state.specs.View.{mostBelow, viewStack};
 ghost use Rattle.agent.specs.Turnable.{placed, Runnable, Ended, Ends};
-use crate::step::Step;
 use belief::Beliefs;
 use jobs::instance;
 use model::Answer;
@@ -18,6 +17,7 @@ use moves::StackMove;
 use state::Stack;
 use state::origin;
 use state::stacks;
+use steps::step::Step;
 use trials::changes;
 use trials::changes::Altered;
 

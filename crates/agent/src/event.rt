@@ -6,9 +6,7 @@ ghost use Rattle.model.specs.Instance.{awake};
 ghost use Rattle.model.specs.Event.{newInstance, pushed, make, close};
 ghost use Rattle.state.specs.View.{mostBelow, viewStack};
 ghost use Rattle.state.specs.Stacks.{replaceTop};
-ghost use Rattle.agent.specs.TakeUp.{HasPlace, openedStack, openedStep, Pushes, Drops, unmetStep, Makes, Closes, TakesUp};
-use crate::step;
-use crate::step::Step;
+ghost use Rattle.agent.specs.TakeUp.{HasPlace, openedStep, Pushes, Drops, unmetStep, Makes, Closes, TakesUp};
 use belief::Beliefs;
 use jobs::instance;
 use literal::Env;
@@ -24,11 +22,12 @@ use moves::QueueMove;
 use moves::StackMove;
 use situation::Choice;
 use situation::failed;
-use state::MOST_BELOW;
 use state::MOST_STACKS;
 use state::Stack;
 use state::search;
 use state::stacks;
+use steps::step;
+use steps::step::Step;
 
 // No instance number is left.
 const NO_NUMBER_LEFT: u16 = 9;
@@ -45,18 +44,6 @@ fn new_instance(made: Number, plan: u16, env: Env) -> Instance
         state: 0,
         tried: 0,
         status: Status::Active,
-    }
-}
-
-// A new stack for an external event.
-fn new_stack(external: Number, x: Instance) -> Stack
-    ensures { λ r. ⌜ r ≡ openedStack external x ⌝ }
-{
-    Stack {
-        top: x,
-        below: [x; MOST_BELOW],
-        depth: 0,
-        external: external,
     }
 }
 
@@ -88,7 +75,7 @@ fn make_external(b: Beliefs, made: Number, plan: u16, env: Env, external: Number
     ensures { λ r. ⌜ r ≡ openedStep b made (record { plan = plan; env = env }) external ⌝ }
 {
     let x = new_instance(made, plan, env);
-    let stack = new_stack(external, x);
+    let stack = step::new_stack(external, x);
     let answer = Answer::MadeExternal {
         instance: x.id,
         plan: plan,

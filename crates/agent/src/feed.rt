@@ -1,16 +1,16 @@
 // A chunk of the journal: its lines are run one after the other. The well-formed test is made once, and what it shows is kept.
 ghost use mathlib.Core.Path.{_≡_};
 ghost use Rattle.agent.specs.Feed.{Trusted, RunsChunk, RunsOn, Feeds};
-use crate::answer;
 use crate::look;
 use crate::look::Look;
 use crate::respond;
-use crate::step;
 use load::Agent;
 use moves::queue;
 use moves::stacks;
 use printing::MOST_LINE;
 use state::State;
+use steps::answer;
+use steps::step;
 use stream::Carry;
 use stream::Next;
 

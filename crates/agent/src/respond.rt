@@ -4,23 +4,23 @@ ghost use lib.ListN.{take};
 ghost use Rattle.reading.specs.Spoken.{meaning};
 ghost use Rattle.agent.specs.Calls.{isWellFormedWith};
 ghost use Rattle.agent.specs.Feed.{Trusted, Responds};
-ghost use Rattle.agent.specs.View.{stackAt};
-ghost use Rattle.agent.specs.Step.{applied};
+ghost use Rattle.steps.specs.View.{stackAt};
+ghost use Rattle.steps.specs.Step.{applied};
 ghost use Rattle.agent.specs.Look.{Looked, placeOf};
-use crate::Acted;
-use crate::answer;
 use crate::cycle;
 use crate::look;
 use crate::look::Look;
-use crate::outcome;
-use crate::report;
-use crate::step;
-use crate::step::Step;
 use crate::turn;
 use model::Answer;
 use reading::Spoken;
 use state::Stack;
 use state::State;
+use steps::Acted;
+use steps::answer;
+use steps::outcome;
+use steps::report;
+use steps::step;
+use steps::step::Step;
 
 // What the look at a line told is done, with the stack that it told of.
 pub(crate) fn act(

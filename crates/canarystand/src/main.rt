@@ -1,11 +1,11 @@
 // The journal program: loads the file "library" of its folder, and answers each line of standard input with a line.
 ghost use Rattle.io.specs.Counts.{Counts};
-use agent::answer;
 use agent::feed;
 use libc::STDIN_FILENO;
 use libc::STDOUT_FILENO;
 use load::Agent;
 use model::Answer;
+use steps::answer;
 use stream::Carry;
 use stream::Last;
 

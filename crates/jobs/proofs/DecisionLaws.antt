@@ -8,7 +8,7 @@ use lib.ListN.{length, getD}
 use borrow.Author.Tests.{le-leb, lt-leb, eq-eqb, ne-eqb}
 use Rattle.literal.specs.declared.Literal.{Literal}
 use Rattle.library.specs.declared.Branch.{Branch}
-use Rattle.library.specs.Plan.{Plan, noPlan, noBranch}
+use Rattle.library.specs.Plan.{Plan, noBranch}
 use Rattle.library.specs.Layout as layout
 use Rattle.library.specs.Layout.{situationAt, maintenanceOff, planAt, planCount, entryOff, libraryOf}
 use Rattle.situation.specs.Solutions.{solutions, firstOf, holdsFrom}

@@ -1,6 +1,6 @@
 -- The change call, applied to the changes that the results of a chain of calls report, gives the agent's belief table:
 -- what a result reports takes effect, so the change call passes over none of it and does what the agent did.
-use Prim.Native.Nat.{ℕ, _≤_}
+use Prim.Native.Nat.{ℕ}
 use native.Mathlib.Omega.{arith}
 use mathlib.Core.Path.{_≡_, refl, ap, sym, subst, subst⁻¹, _∙_}
 use mathlib.Core.Bool.{Bool, true, false, _&&_}

@@ -5,7 +5,6 @@ use mathlib.Core.Path.{_≡_, refl, ap, sym, _∙_}
 use mathlib.Core.Bool.{Bool, true, false, cond, not, _&&_, or-false, or-true}
 use mathlib.Core.Option.{none, some}
 use mathlib.Core.List.{List, []}
-use lib.ListN.{length, getD}
 use lib.Dec.{eqb}
 use borrow.Author.Tests.{lt-ltb, le-ltb, le-leb, lt-leb, eq-eqb, ne-eqb}
 use Rattle.literal.specs.declared.Literal.{Literal}
@@ -18,15 +17,9 @@ use Rattle.belief.specs.declared.Beliefs.{Beliefs}
 use Rattle.belief.specs.declared.Change.{Change}
 use Rattle.belief.specs.Beliefs.{view, holds, replay}
 use Rattle.library.specs.declared.Branch.{Branch}
-use Rattle.library.specs.Plan.{Plan, noBranch}
-use Rattle.library.specs.Layout as layout
-use Rattle.library.specs.Layout.{situationAt, maintenanceOff, planAt, planCount, entryOff, libraryOf}
-use Rattle.situation.specs.Solutions.{holdsFrom, ask}
-use Rattle.model.specs.declared.Instance.{Instance}
-use Rattle.model.specs.Instance.{planOf, branchesOf}
+use Rattle.situation.specs.Solutions.{ask}
 use Rattle.model.specs.Changes.{changeOf}
 use Rattle.model.specs.Try.{stepped, tryChange, tryAction, answerTo, isBarred, pursue, attempt}
-use Rattle.model.specs.Turn.{fails, succeeds, tries, moveBy, nextMove}
 use Rattle.trials.specs.declared.changes.Altered.{Altered}
 use Rattle.trials.specs.declared.tries.Outcome.{Outcome}
 use Rattle.trials.specs.declared.tries.Outcome.the-variants.{Missed, Stepped, Done, Posted}

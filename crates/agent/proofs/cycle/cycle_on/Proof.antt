@@ -5,8 +5,9 @@ use Prim.Native.Nat.{_<_}
 use mathlib.Core.Path.{refl}
 use Rattle.lists.proofs.ArrayLaws.{length-mapped}
 use Rattle.state.specs.View.{stackedOf}
-use Rattle.agent.specs.View.{Sized}
+use Rattle.steps.specs.View.{Sized}
 use Rattle.agent.specs.TakeUp.{Has}
+use Rattle.steps.proofs.StepLaws.{rest-applied}
 use Rattle.agent.proofs.FormedFacts.{has-place, runnable, turnable}
 use Rattle.agent.proofs.CycleLaws.{cycled-event, cycled-turn, cycled-idle}
 use Rattle.agent.proofs.cycle.cycle_on.Statement.{statement}
@@ -68,7 +69,7 @@ no-step-requires c κs = search needs
 returns-3 : tie.Need-returns-3
 returns-3 c =
     let a = (c .before .before .before .before .before .before .before .before .before .before .args) in
-    cycled-idle (a .library .now) (a .t2) (sized (c .before .before .before .before .before .before .before .before .before .before) .queue) (sized (c .before .before .before .before .before .before .before .before .before .before) .stacks) ((c .before .before .before .before .before .before .before .next-event) .result) ((c .before .before .before .before .before .before .before .next-event) .ensures) (omega (arith, (c .before .before .before .before .before .before .queued-of) .ensures, (c .before .before .before .before .before .if1) .left)) ((c .before .before .before .next-stack) .result) ((c .before .before .before .next-stack) .ensures) (omega (arith, (c .before .before .stacked-of) .ensures, (c .before .if2) .left)) ((c .before .before .before .before .before .before .before .before .before .before .pre) .fit) _ ((c .no-step) .ensures (a .t2) refl)
+    cycled-idle (a .library .now) (a .t2) (sized (c .before .before .before .before .before .before .before .before .before .before) .queue) (sized (c .before .before .before .before .before .before .before .before .before .before) .stacks) ((c .before .before .before .before .before .before .before .next-event) .result) ((c .before .before .before .before .before .before .before .next-event) .ensures) (omega (arith, (c .before .before .before .before .before .before .queued-of) .ensures, (c .before .before .before .before .before .if1) .left)) ((c .before .before .before .next-stack) .result) ((c .before .before .before .next-stack) .ensures) (omega (arith, (c .before .before .stacked-of) .ensures, (c .before .if2) .left)) ((c .before .before .before .before .before .before .before .before .before .before .pre) .fit) _ (rest-applied (a .t2) (a .t2 .beliefs) _ ((c .no-step) .result) ((c .no-step) .ensures) refl)
 
 pub cycle-on-spec : {M : Type 1} → statement M
 cycle-on-spec =

@@ -11,7 +11,7 @@ use Rattle.state.specs.Stacks.{pop}
 use Rattle.state.proofs.StackLaws.{pop-none}
 use Rattle.moves.specs.Moves.{requeue}
 use Rattle.agent.specs.Turnable.{ended}
-use Rattle.agent.proofs.GivesLaws.{replies-as}
+use Rattle.steps.proofs.GivesLaws.{replies-as}
 use Rattle.agent.proofs.TurnLaws.{pops}
 use Rattle.agent.proofs.ends.lowered.Statement.{statement}
 use Rattle.agent.proofs.ends.lowered.Tie as tie

@@ -19,7 +19,7 @@ use Rattle.jobs.proofs.PlaceLaws.{plan-there}
 use Rattle.moves.specs.declared.QueueMove.the-variants as queue
 use Rattle.moves.specs.Moves.{requeue}
 use Rattle.trials.specs.Altered.{Alters}
-use Rattle.agent.proofs.GivesLaws.{replies-as}
+use Rattle.steps.proofs.GivesLaws.{replies-as}
 use Rattle.agent.proofs.TurnLaws.{close-requeues, ended-after}
 use Rattle.agent.proofs.ends.succeed.Statement.{statement}
 use Rattle.agent.proofs.ends.succeed.Tie as tie

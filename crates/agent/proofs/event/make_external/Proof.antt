@@ -7,8 +7,7 @@ use Rattle.moves.specs.declared.QueueMove.the-variants as queue
 use Rattle.moves.specs.declared.StackMove.the-variants as stacks
 use Rattle.moves.specs.declared.Numbering.the-variants as numbering
 use Rattle.state.specs.declared.Stack.{Stack}
-use Rattle.agent.specs.Step.{plainStep}
-use Rattle.agent.specs.TakeUp.{openedStack}
+use Rattle.steps.specs.Step.{openedStack, plainStep}
 use Rattle.agent.proofs.event.make_external.Statement.{statement}
 use Rattle.agent.proofs.event.make_external.Tie as tie
 

@@ -10,8 +10,8 @@ use Rattle.moves.specs.declared.StackMove.the-variants as stacks
 use Rattle.moves.specs.declared.Numbering.the-variants as numbering
 use Rattle.state.specs.declared.Stack.{Stack}
 use Rattle.state.specs.View.{viewStack}
-use Rattle.agent.specs.declared.step.Step.{Step}
-use Rattle.agent.specs.Step.{plainStep}
+use Rattle.steps.specs.declared.step.Step.{Step}
+use Rattle.steps.specs.Step.{plainStep}
 use Rattle.agent.proofs.event.make_goal.Statement.{statement}
 use Rattle.agent.proofs.event.make_goal.Tie as tie
 

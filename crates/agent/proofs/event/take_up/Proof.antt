@@ -8,6 +8,7 @@ use Rattle.belief.specs.Beliefs.{view}
 use Rattle.library.specs.Layout.{libraryOf}
 use Rattle.situation.specs.Applicable.{choose}
 use Rattle.situation.specs.Selected.{chosenOf}
+use Rattle.steps.proofs.StepLaws.{rest-applied}
 use Rattle.agent.proofs.TakeUpLaws.{closed, refused, made}
 use Rattle.agent.proofs.event.take_up.Statement.{statement}
 use Rattle.agent.proofs.event.take_up.Tie as tie
@@ -40,7 +41,7 @@ returns-2 c = λ s h.
     let a = (c .before .before .before .before .before .before .before .args) in
     let e = a .event in
     let chose = subst⁻¹ (λ (b : Beliefs). chosenOf ((c .before .before .before .before .before .choose-plan) .result) ≡ choose (view b) (e .kind) (e .literal) (e .failed) (libraryOf (now (a .library)) .plans)) (h .beliefs-are) ((c .before .before .before .before .before .choose-plan) .ensures .0) in
-    refused s (a .place) (now (a .library)) e ((c .before .before .before .before .before .choose-plan) .result) _ chose _ ((c .before .before .before .choice) .given .1) (subst⁻¹ (λ (m : ℕ). 65535 ≤ m) (h .made-is) ((c .before .if1) .taken)) (h .fit) ((c .no-step) .ensures s (h .beliefs-are))
+    refused s (a .place) (now (a .library)) e ((c .before .before .before .before .before .choose-plan) .result) _ chose _ ((c .before .before .before .choice) .given .1) (subst⁻¹ (λ (m : ℕ). 65535 ≤ m) (h .made-is) ((c .before .if1) .taken)) (h .fit) (rest-applied s (a .b) _ ((c .no-step) .result) ((c .no-step) .ensures) (h .beliefs-are))
 
 make-event-requires : tie.Need-make-event-requires
 make-event-requires c κs = search needs

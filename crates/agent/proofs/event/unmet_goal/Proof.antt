@@ -5,7 +5,7 @@ use Rattle.state.specs.declared.Stack.{Stack}
 use Rattle.moves.specs.declared.QueueMove.the-variants as queue
 use Rattle.moves.specs.declared.StackMove.the-variants as stacks
 use Rattle.moves.specs.declared.Numbering.the-variants as numbering
-use Rattle.agent.specs.Step.{plainStep}
+use Rattle.steps.specs.Step.{plainStep}
 use Rattle.agent.proofs.event.unmet_goal.Statement.{statement}
 use Rattle.agent.proofs.event.unmet_goal.Tie as tie
 

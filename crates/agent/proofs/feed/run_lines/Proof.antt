@@ -10,13 +10,13 @@ use Rattle.printing.specs.LineText.{mostLine}
 use Rattle.stream.specs.Calls.{shown}
 use Rattle.stream.proofs.ChunkLaws.{line-moves}
 use Rattle.moves.specs.Moves.{requeue}
-use Rattle.agent.specs.View.{plainly, stackAt}
-use Rattle.agent.specs.Step.{applied}
+use Rattle.steps.specs.View.{plainly, stackAt}
+use Rattle.steps.specs.Step.{applied}
 use Rattle.agent.specs.Feed.{Trusted, Progress}
 use Rattle.agent.specs.Look.{Looked}
 use Rattle.agent.proofs.FeedLaws.{trusted-next}
 use Rattle.agent.proofs.LookLaws.{place-low}
-use Rattle.agent.proofs.StepLaws.{queue-moved, queue-kept, parts-after}
+use Rattle.steps.proofs.StepLaws.{queue-moved, queue-kept, parts-after}
 use Rattle.agent.proofs.ProgressLaws.{written-within, progress-as, progress-start, progress-line, progress-used}
 use Rattle.agent.proofs.feed.run_lines.Statement.{statement}
 use Rattle.agent.proofs.feed.run_lines.Tie as tie

@@ -1,7 +1,7 @@
 -- `agent::look::look_at` meets its contract: the look at the state's parts.
 use borrow.Author.Needs.{needs}
 use Rattle.lists.proofs.ArrayLaws.{length-mapped}
-use Rattle.agent.specs.View.{Sized}
+use Rattle.steps.specs.View.{Sized}
 use Rattle.agent.proofs.LookLaws.{looked}
 use Rattle.agent.proofs.look.look_at.Statement.{statement}
 use Rattle.agent.proofs.look.look_at.Tie as tie

@@ -5,13 +5,13 @@ use Rattle.lists.proofs.ArrayLaws.{length-mapped}
 use Rattle.model.specs.State.{report, cycle}
 use Rattle.model.specs.Calls.{act}
 use Rattle.reading.specs.Spoken.{meaning}
-use Rattle.state.proofs.CountParts.{counts-parts}
 use Rattle.agent.specs.declared.look.Look.{Look}
-use Rattle.agent.specs.View.{Sized, stackAt}
-use Rattle.agent.specs.Report.{Heard}
-use Rattle.agent.specs.Step.{applied}
+use Rattle.steps.specs.View.{Sized, stackAt}
+use Rattle.steps.specs.Step.{applied}
 use Rattle.agent.specs.Feed.{Responds}
 use Rattle.agent.specs.Look.{Looked, placeOf}
+use Rattle.steps.proofs.StepLaws.{rest-applied}
+use Rattle.steps.proofs.ReportLaws.{report-gives}
 use Rattle.agent.proofs.FormedFacts.{hears}
 use Rattle.agent.proofs.FeedLaws.{responds-act, as-told}
 use Rattle.agent.proofs.LookLaws.{turn-runnable, turn-responds, tell-responds}
@@ -31,10 +31,7 @@ enum-known-look-2 : tie.Need-enum-known-look-2
 enum-known-look-2 c = search needs
 
 report-on-requires : tie.Need-report-on-requires
-report-on-requires c κs =
-    let a = (c .before .before .before .before .before .before .args) in
-    let told = subst (Looked (a .formed) (a .s) (meaning (a .spoken))) ((c .before .before .look2) .given .1) ((c .before .before .before .before .before .before .pre) .1 .0) in
-    counts-parts (a .s) ((c .before .before .before .before .before .before .pre) .0 (told .0) .fit) .beliefs
+report-on-requires c κs = search needs
 
 enum-told : tie.Need-enum-told
 enum-told c = search needs
@@ -65,7 +62,7 @@ returns : tie.Need-returns
 returns c =
     let a = (c .before .before .before .before .before .before .args) in
     let told = subst (Looked (a .formed) (a .s) (meaning (a .spoken))) ((c .before .before .look) .given .1) ((c .before .before .before .before .before .before .pre) .1 .0) in
-    subst⁻¹ (Responds (a .library .now) (a .formed) (a .s) (meaning (a .spoken))) ((c .no-step) .ensures (a .s) refl) (told (a .library .now) ((c .before .before .before .before .before .before .pre) .0))
+    subst⁻¹ (Responds (a .library .now) (a .formed) (a .s) (meaning (a .spoken))) (rest-applied (a .s) (a .s .beliefs) _ ((c .no-step) .result) ((c .no-step) .ensures) refl) (told (a .library .now) ((c .before .before .before .before .before .before .pre) .0))
 
 returns-2 : tie.Need-returns-2
 unfolding act
@@ -73,10 +70,9 @@ returns-2 c =
     let a = (c .before .before .before .before .before .before .before .args) in
     let told = subst (Looked (a .formed) (a .s) (meaning (a .spoken))) ((c .before .before .before .look2) .given .1) ((c .before .before .before .before .before .before .before .pre) .1 .0) in
     let w = (c .before .before .before .before .before .before .before .pre) .0 (told .0) in
-    let heard : Heard (a .s) (a .s .beliefs) (a .s .queue) (a .s .queued) (a .s .taken) = record { beliefs-are = refl; events-are = refl; queued-is = refl; taken-is = refl } in
     let hear = hears (a .library .now) (a .s) (w .fit) (w .formed) (sized (c .before .before .before .before .before .before .before)) (w .accepted) _ _ in
     as-told (a .library .now) (a .s) (told .0) (told .1)
-    (responds-act (a .library .now) (a .s) (report _ _) (applied (a .s) ((c .report-on) .result)) ((c .report-on) .ensures (a .s) heard hear))
+    (responds-act (a .library .now) (a .s) (report _ _) (applied (a .s) ((c .report-on) .result)) (report-gives (a .s) _ _ hear ((c .report-on) .result) ((c .report-on) .ensures)))
 
 returns-3 : tie.Need-returns-3
 unfolding act

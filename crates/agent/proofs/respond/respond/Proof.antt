@@ -8,7 +8,7 @@ use lib.Seq.{length-take-le}
 use Rattle.model.specs.declared.Answer.the-variants.{Refused}
 use Rattle.reading.specs.Spoken.{meaning}
 use Rattle.state.proofs.CountParts.{counts-parts}
-use Rattle.agent.specs.View.{plainly, stackAt}
+use Rattle.steps.specs.View.{plainly, stackAt}
 use Rattle.agent.specs.Calls.{isWellFormedWith}
 use Rattle.agent.specs.Feed.{Trusted, Responds}
 use Rattle.agent.specs.Look.{Looked}

@@ -9,7 +9,7 @@ use Rattle.state.specs.View.{viewStack, viewQueue, viewState}
 use Rattle.state.specs.Queue.{enqueue}
 use Rattle.state.proofs.CountParts.{counts-parts}
 use Rattle.agent.specs.Turnable.{ended}
-use Rattle.agent.proofs.GivesLaws.{replies-as}
+use Rattle.steps.proofs.GivesLaws.{replies-as}
 use Rattle.agent.proofs.TurnLaws.{enqueue-requeues, ended-after}
 use Rattle.agent.proofs.turn.on_posted.Statement.{statement}
 use Rattle.agent.proofs.turn.on_posted.Tie as tie

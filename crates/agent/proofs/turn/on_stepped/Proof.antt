@@ -8,7 +8,7 @@ use Rattle.model.specs.Try.{withTop, tried}
 use Rattle.state.specs.View.{viewStack, viewQueue, viewState}
 use Rattle.state.proofs.CountParts.{counts-parts}
 use Rattle.agent.specs.Turnable.{ended}
-use Rattle.agent.proofs.GivesLaws.{replies-as}
+use Rattle.steps.proofs.GivesLaws.{replies-as}
 use Rattle.agent.proofs.TurnLaws.{ended-after}
 use Rattle.trials.specs.Altered.{changesOf}
 use Rattle.agent.proofs.turn.on_stepped.Statement.{statement}

@@ -12,7 +12,7 @@ use Rattle.state.proofs.StackLaws.{length-down}
 use Rattle.trials.specs.Altered.{Alters}
 use Rattle.trials.specs.Trial.{viewTrial, changesBy, Tries}
 use Rattle.agent.specs.Turnable.{placed}
-use Rattle.agent.proofs.GivesLaws.{replies-as}
+use Rattle.steps.proofs.GivesLaws.{replies-as}
 use Rattle.agent.proofs.turn.try_branch.Statement.{statement}
 use Rattle.agent.proofs.turn.try_branch.Tie as tie
 

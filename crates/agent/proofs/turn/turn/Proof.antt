@@ -2,7 +2,7 @@
 use borrow.Author.Needs.{needs}
 use denote.Ref.{now}
 use mathlib.Core.Path.{ap, sym, _∙_}
-use Rattle.model.specs.Turn.{turnBy, turn}
+use Rattle.model.specs.Turn.{turnBy}
 use Rattle.jobs.specs.Decision.{viewDecision}
 use Rattle.agent.proofs.TurnLaws.{turns-by, turns-tried}
 use Rattle.agent.proofs.turn.turn.Statement.{statement}

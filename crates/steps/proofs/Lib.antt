@@ -1,0 +1,5 @@
+pub mod GivesLaws
+pub mod CountLaws
+pub mod StepLaws
+pub mod OutcomeLaws
+pub mod ReportLaws

@@ -1,0 +1,5 @@
+pub mod View
+pub mod Gives
+pub mod Step
+pub mod Outcome
+pub mod Report
