@@ -19,20 +19,20 @@ use Rattle.stream.specs.Carried.{begun, more}
 use Rattle.stream.specs.Calls.{callsFrom, nextLine, shown}
 use Rattle.stream.proofs.ChunkLaws.{line-ends, line-goes-on}
 use Rattle.steps.specs.declared.Acted.{Acted}
-use Rattle.agent.specs.Feed.{Responds, none-yet, then, Progress}
+use Rattle.agent.specs.Feed.{Responds, none-yet, then, silent, roomy, Progress}
 
 module _ (bytes : List ℕ) (formed : Bool) (s : State) (carry : Carry) (chunk before : List ℕ) where
   -- nothing is read yet
   pub progress-start : Progress bytes formed s carry chunk before before s carry 0 0
-  progress-start = record { calls = []; text = []; said = λ rest. refl; runs = none-yet; written = nothing }
+  progress-start = record { calls = []; text = []; said = λ rest. refl; runs = none-yet; written = nothing; roomy = silent }
 
   module _ {after : List ℕ} {t : State} {held : Carry} {read wrote : ℕ} (p : Progress bytes formed s carry chunk before after t held read wrote) where
-    -- a line ends: it is run, and its result printed
-    pub progress-line : (call : Spoken) (behind : ℕ) → shown (Line call behind) ≡ nextLine chunk read (begun held)
+    -- a line ends: it is run, and its result printed where there is room for the longest
+    pub progress-line : wrote + mostLine ≤ length before → (call : Spoken) (behind : ℕ) → shown (Line call behind) ≡ nextLine chunk read (begun held)
         → (r : Acted) → Responds bytes formed t (meaning call) r
         → {later : List ℕ} {next : ℕ} → Wrote mostLine after later wrote next (resultText (viewResult (r .result)))
         → (fresh : Carry) → begun fresh ≡ some [] → Progress bytes formed s carry chunk before later (r .state) fresh behind next
-    progress-line call behind told r h w fresh new =
+    progress-line room call behind told r h w fresh new =
         let both = write-then (p .written) w in
         record {
           calls = p .calls ++ (meaning call ∷ []);
@@ -43,6 +43,7 @@ module _ (bytes : List ℕ) (formed : Bool) (s : State) (carry : Carry) (chunk b
               ∙ sym (append-assoc (p .calls) (meaning call ∷ []) (callsFrom (begun fresh) (drop behind chunk ++ rest)));
           runs = then (p .runs) (meaning call) r h;
           written = record { bytes = both .bytes; past = both .past; within = omega arith };
+          roomy = roomy (p .text) (viewResult (r .result)) (omega (arith, p .written .past, room));
         }
 
     -- no line ends in what is left of the chunk
@@ -56,6 +57,7 @@ module _ (bytes : List ℕ) (formed : Bool) (s : State) (carry : Carry) (chunk b
           (line-goes-on chunk read held last rest told new ∙ ap (λ (l : List ℕ). callsFrom (begun last) (l ++ rest)) (sym (drop-of-length-le chunk {i = length chunk} (omega arith))));
       runs = p .runs;
       written = p .written;
+      roomy = p .roomy;
     }
 
 -- what was written is within the output

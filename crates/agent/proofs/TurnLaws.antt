@@ -22,19 +22,18 @@ use Rattle.model.specs.declared.Answer.{Answer}
 use Rattle.model.specs.declared.Event.{Event}
 use Rattle.model.specs.declared.Instance.{Instance}
 use Rattle.model.specs.declared.Origin.{Origin}
-use Rattle.model.specs.declared.Origin.the-variants.{External}
 use Rattle.model.specs.State.{Intention, AgentState, reply, requeued, restacked, after, noEvent}
-use Rattle.model.specs.Live.{isOf, goalOf, eventOn}
+use Rattle.model.specs.Live.{isOf}
 use Rattle.model.specs.Try.{attempt, lastInTurn, tried}
 use Rattle.model.specs.Turn.{Move, tries, nextMove, heightOf, turnBy, turn}
-use Rattle.model.specs.End.{servedBy, closeEvent, marked, markEvent, popped}
+use Rattle.model.specs.End.{closeEvent, marked, markEvent, popped}
 use Rattle.state.specs.declared.Stack.{Stack}
 use Rattle.state.specs.declared.State.{State}
-use Rattle.state.specs.View.{depthOf, down, viewStack, queuedOf, stackedOf, viewQueue, viewStacks, viewState, countsFit}
+use Rattle.state.specs.View.{depthOf, viewStack, queuedOf, stackedOf, viewQueue, viewStacks, viewState, countsFit}
 use Rattle.state.specs.Queue.{enqueue, dequeue, withFailure, putEvent}
 use Rattle.state.specs.Stacks.{pop, underTop}
 use Rattle.state.proofs.ViewLaws.{length-queue}
-use Rattle.state.proofs.StackLaws.{below-view, pop-view}
+use Rattle.state.proofs.StackLaws.{pop-view}
 use Rattle.state.proofs.StateLaws.{enqueue-state, dequeue-state, put-event-state, enqueue-stacked, dequeue-stacked, put-event-stacked, drop-state, last-state}
 use Rattle.moves.specs.declared.QueueMove.{QueueMove}
 use Rattle.moves.specs.declared.QueueMove.the-variants as queue
@@ -151,14 +150,6 @@ pub pops : (stack next : Stack) (change : Instance → Instance) (x : Instance) 
     → viewStack next ∷ [] ≡ popped (stack .external) change (viewStack stack .below)
 pops stack next change x h p q =
     ap (λ (k : Stack). viewStack k ∷ []) (p ∙ ap (pop stack) q) ∙ sym (pop-view stack change h)
-
--- the event that the top serves: the stack's external event, or the goal of the instance under it
-pub serves-external : (stack : Stack) → depthOf stack ≡ 0 → External (stack .external) ≡ servedBy (viewStack stack)
-unfolding down
-serves-external stack h = rw h
-
-pub serves-goal : (stack : Stack) → 0 < depthOf stack → goalOf (underTop stack) ≡ servedBy (viewStack stack)
-serves-goal stack h = sym (ap (eventOn (stack .external)) (below-view stack h))
 
 -- ---- The model's reply
 

@@ -3,6 +3,7 @@ use Prim.Native.Nat.{ℕ, _+_, _≤_, _<_}
 use mathlib.Core.Path.{_≡_}
 use mathlib.Core.Bool.{Bool, true}
 use mathlib.Core.Option.{Option, none, some}
+use mathlib.Core.Logic.{_⊎_}
 use mathlib.Core.List.{List, [], _∷_, _++_}
 use lib.ListN.{length, take, drop}
 use Rattle.library.specs.Plan.{Library}
@@ -80,6 +81,15 @@ pub data Journal (a : Agent) : List (Option Call) → List ℕ → Agent → Typ
 
 -- ---- A chunk
 
+-- the text of some results: the last one began where the output had room for the longest line, and so did those before it
+pub data Roomy (size : ℕ) : List ℕ → Type 0 where
+  silent : Roomy size []
+  roomy : (text : List ℕ) (result : Result) → length text + mostLine ≤ size → Roomy size (text ++ resultText result)
+
+-- nothing is read yet, or what is read ends with a line
+abbrev pub Between : Carry → Carry → ℕ → Type 0
+Between carry held read = ((read ≡ 0) × (held ≡ carry)) ⊎ (begun held ≡ some [])
+
 -- by some of a chunk from a state and a line so far to those after it: what the input says is what the lines run have said,
 -- and then what is left of it; the text of their results stands at the output's start, and every other byte is as it was
 pub record Progress (bytes : List ℕ) (formed : Bool) (s : State) (carry : Carry) (chunk before after : List ℕ)
@@ -89,6 +99,7 @@ pub record Progress (bytes : List ℕ) (formed : Bool) (s : State) (carry : Carr
   pub said : (rest : List ℕ) → callsFrom (begun carry) (chunk ++ rest) ≡ calls ++ callsFrom (begun held) (drop read chunk ++ rest)
   pub runs : Runs bytes formed s calls text t
   pub written : Wrote wrote before after 0 wrote text
+  pub roomy : Roomy (length before) text
 
 -- the whole chunk, unless the output has no room for the longest line any more
 pub record RunsChunk (bytes : List ℕ) (formed : Bool) (s : State) (carry : Carry) (chunk before after : List ℕ) (r : Ran) : Type 0 where
@@ -96,6 +107,7 @@ pub record RunsChunk (bytes : List ℕ) (formed : Bool) (s : State) (carry : Car
   pub within : r .read ≤ length chunk
   pub room : r .wrote ≤ length after
   pub whole : r .read < length chunk → length after < r .wrote + mostLine
+  pub stops : r .read < length chunk → Between carry (r .carry) (r .read)
 
 -- the same for a library in the first bytes of an array, tested once
 pub record RunsOn (library : List ℕ) (size : ℕ) (s : State) (carry : Carry) (chunk before after : List ℕ) (r : Ran) : Type 0 where
@@ -105,7 +117,8 @@ pub record RunsOn (library : List ℕ) (size : ℕ) (s : State) (carry : Carry) 
 
 -- what a chunk gives, by the contracts of the agent's calls: what the input says is what the lines run have said, and then what is
 -- left of it; their answers stand at the output's start, and every other byte is as it was.
--- All of the chunk is read, unless the output has no room for the longest line any more
+-- All of the chunk is read, unless the output has no room for the longest line any more: no line is run without this room,
+-- and where a chunk is not read whole, nothing behind the last line run is read
 pub record Feeds (a : Agent) (carry : Carry) (chunk before after : List ℕ) (r : Fed) : Type 0 where
   pub calls : List (Option Call)
   pub text : List ℕ
@@ -113,6 +126,8 @@ pub record Feeds (a : Agent) (carry : Carry) (chunk before after : List ℕ) (r 
       → callsFrom (begun carry) (chunk ++ rest) ≡ calls ++ callsFrom (begun (r .carry)) (drop (r .read) chunk ++ rest)
   pub journal : Journal a calls text (r .agent)
   pub written : Wrote (r .wrote) before after 0 (r .wrote) text
+  pub roomy : Roomy (length before) text
   pub within : r .read ≤ length chunk
   pub room : r .wrote ≤ length after
   pub whole : r .read < length chunk → length after < r .wrote + mostLine
+  pub stops : r .read < length chunk → Between carry (r .carry) (r .read)

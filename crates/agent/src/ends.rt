@@ -1,22 +1,20 @@
 // The end of an instance: its list runs, it is popped, its event is closed or marked, and the stack goes last.
-ghost use mathlib.Core.Path.{_≡_};
 ghost use mathlib.Core.List.{[], _∷_};
 ghost use Prim.Native.Nat.{_≤_};
 ghost use Rattle.library.specs.Layout.{libraryOf};
 ghost use Rattle.model.specs.Instance.{pastBranch};
-ghost use Rattle.model.specs.End.{servedBy, popped, succeed, fail};
+ghost use Rattle.model.specs.End.{popped, succeed, fail};
 ghost use Rattle.state.specs.View.{mostBelow, viewStack};
 ghost use Rattle.agent.specs.Turnable.{placed, Runnable, Ended, Ends};
 use belief::Beliefs;
 use jobs::instance;
 use model::Answer;
-use model::Origin;
 use moves::Numbering;
 use moves::QueueMove;
 use moves::StackMove;
 use state::Stack;
-use state::origin;
 use state::stacks;
+use steps::ends;
 use steps::step::Step;
 use trials::changes;
 use trials::changes::Altered;
@@ -59,17 +57,6 @@ fn emptied(place: usize, stack: Stack, answer: Answer, altered: Altered, queue: 
 }
 
 // ---- The stack
-
-// The event that the top of a stack serves.
-fn served_by(stack: Stack) -> Origin
-    ensures { λ r. ⌜ r ≡ servedBy (viewStack stack) ⌝ }
-{
-    if stacks::depth_of(stack) < 1 {
-        return Origin::External(stack.external);
-    }
-    let poster = stacks::under_top(stack);
-    origin::goal_of(poster)
-}
 
 // The top goes, and the stack with it where it was alone; a poster below stays as it is.
 fn lowered(place: usize, stack: Stack, answer: Answer, altered: Altered, queue: QueueMove) -> Step
@@ -114,9 +101,8 @@ pub(crate) fn succeed(library: &[u8], b: Beliefs, place: usize, stack: Stack) ->
     let x = stack.top;
     let env = x.env;
     let altered = changes::list_run(library, x.plan as usize, true, env, b);
-    let served = served_by(stack);
+    let closed = ends::end_move(stack, true);
     let answer = Answer::Succeeded(x.id);
-    let closed = QueueMove::Close(served);
     raised(library, place, stack, answer, altered, closed)
 }
 
@@ -128,11 +114,7 @@ pub(crate) fn fail(library: &[u8], b: Beliefs, place: usize, stack: Stack) -> St
     let x = stack.top;
     let env = x.env;
     let altered = changes::list_run(library, x.plan as usize, false, env, b);
-    let served = served_by(stack);
+    let marked = ends::end_move(stack, false);
     let answer = Answer::Failed(x.id);
-    let marked = QueueMove::Mark {
-        origin: served,
-        plan: x.plan,
-    };
     lowered(place, stack, answer, altered, marked)
 }

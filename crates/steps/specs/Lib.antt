@@ -2,4 +2,5 @@ pub mod View
 pub mod Gives
 pub mod Step
 pub mod Outcome
+pub mod End
 pub mod Report

@@ -3,6 +3,7 @@ use model::Answered;
 use state::State;
 
 pub mod answer; // what a call answers
+pub mod ends; // what the end of an instance does to the queue
 pub mod outcome; // the outcome of an external action
 pub mod report; // a report of a device
 pub mod step; // what a call decides

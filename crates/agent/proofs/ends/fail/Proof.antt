@@ -2,7 +2,7 @@
 use borrow.Author.Needs.{needs}
 use native.Mathlib.Omega.{arith}
 use denote.Ref.{now}
-use mathlib.Core.Path.{_≡_, refl, subst⁻¹, _∙_}
+use mathlib.Core.Path.{_≡_, refl, subst, subst⁻¹}
 use lib.ListN.{take}
 use lib.Seq.{take-all}
 use Rattle.belief.specs.declared.Beliefs.{Beliefs}
@@ -15,13 +15,15 @@ use Rattle.model.specs.declared.Answer.the-variants.{Failed}
 use Rattle.model.specs.declared.Instance.{Instance}
 use Rattle.model.specs.Changes.{effects}
 use Rattle.model.specs.Instance.{planOf}
-use Rattle.model.specs.End.{markEvent, popped, endTop, fail}
+use Rattle.model.specs.End.{servedBy, markEvent, popped, endTop, fail}
 use Rattle.state.specs.View.{viewStack, viewQueue}
 use Rattle.jobs.proofs.PlaceLaws.{plan-there}
+use Rattle.moves.specs.declared.QueueMove.{QueueMove}
 use Rattle.moves.specs.declared.QueueMove.the-variants as queue
 use Rattle.moves.specs.Moves.{requeue}
 use Rattle.trials.specs.Altered.{Alters}
 use Rattle.steps.proofs.GivesLaws.{replies-as}
+use Rattle.agent.specs.Turnable.{Ended}
 use Rattle.agent.proofs.TurnLaws.{mark-requeues, ended-after}
 use Rattle.agent.proofs.ends.fail.Statement.{statement}
 use Rattle.agent.proofs.ends.fail.Tie as tie
@@ -32,8 +34,8 @@ cast-list-run c = search needs
 list-run-requires : tie.Need-list-run-requires
 list-run-requires c κs = search needs
 
-served-by-requires : tie.Need-served-by-requires
-served-by-requires c κs = search needs
+end-move-requires : tie.Need-end-move-requires
+end-move-requires c κs = search needs
 
 lowered-requires : tie.Need-lowered-requires
 lowered-requires c κs = search needs
@@ -51,13 +53,15 @@ returns c = λ s e stands.
     let alters : Alters (a .b) (effects (view (a .b)) (x .env) actions) ((c .before .before .list-run) .result)
     = rw (plan-there bytes x (planCount bytes) refl (pre .plan)) (rw all at ((c .before .before .list-run) .ensures)) in
     let here = subst⁻¹ (λ (b : Beliefs). Alters b (effects (view b) (x .env) actions) ((c .before .before .list-run) .result)) e alters in
-    let q = mark-requeues s (a .place) stands ((c .before .served-by) .result) (x .plan) (omega (arith, few-plans bytes (pre .accepted), pre .plan)) in
-    replies-as (ended-after s (requeue (queue.Mark ((c .before .served-by) .result) (x .plan)) s) (a .place) (a .stack) (popped (a .stack .external) (λ (below : Instance). below) (viewStack (a .stack) .below)) (Failed (x .id))
-    (effects (view (s .beliefs)) (x .env) actions) (markEvent (x .plan) ((c .before .served-by) .result) (viewQueue s)) ((c .before .before .list-run) .result) here (q .shown)
-    ∙ rw ((c .before .served-by) .ensures))
-    ((c .lowered) .ensures s (q .standing) (alters .few (pre .few)))
+    let served = servedBy (viewStack (a .stack)) in
+    let gives = subst (λ (m : QueueMove). Ended (a .place) (popped (a .stack .external) (λ (below : Instance). below) (viewStack (a .stack) .below)) (Failed (x .id)) ((c .before .before .list-run) .result) m ((c .lowered) .result))
+    ((c .before .end-move) .ensures) ((c .lowered) .ensures) in
+    let q = mark-requeues s (a .place) stands served (x .plan) (omega (arith, few-plans bytes (pre .accepted), pre .plan)) in
+    replies-as (ended-after s (requeue (queue.Mark served (x .plan)) s) (a .place) (a .stack) (popped (a .stack .external) (λ (below : Instance). below) (viewStack (a .stack) .below)) (Failed (x .id))
+    (effects (view (s .beliefs)) (x .env) actions) (markEvent (x .plan) served (viewQueue s)) ((c .before .before .list-run) .result) here (q .shown))
+    (gives s (q .standing) (alters .few (pre .few)))
 
 pub fail-spec : {M : Type 1} → statement M
 fail-spec =
     tie.close
-    (tie.spec cast-list-run list-run-requires served-by-requires lowered-requires returns)
+    (tie.spec cast-list-run list-run-requires end-move-requires lowered-requires returns)

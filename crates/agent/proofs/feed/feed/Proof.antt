@@ -23,9 +23,11 @@ returns c =
       said = p .said;
       journal = runs-journal a (on .bytes) (isWellFormedAgent a) refl (on .own) (p .runs);
       written = p .written;
+      roomy = p .roomy;
       within = on .ran .within;
       room = on .ran .room;
       whole = on .ran .whole;
+      stops = on .ran .stops;
     }
 
 pub feed-spec : {M : Type 1} → statement M

@@ -3,7 +3,7 @@ use borrow.Author.Needs.{needs}
 use native.Mathlib.Omega.{arith}
 use Prim.Native.Nat.{_+_, _-_, _≤_}
 use mathlib.Core.Path.{_≡_, refl, ap, sym, subst, subst⁻¹, _∙_}
-use mathlib.Core.Logic.{⊎-elim}
+use mathlib.Core.Logic.{inl, inr, ⊎-elim}
 use lib.ListN.{length}
 use Rattle.state.proofs.CountParts.{counts-parts}
 use Rattle.printing.specs.LineText.{mostLine}
@@ -12,7 +12,7 @@ use Rattle.stream.proofs.ChunkLaws.{line-moves}
 use Rattle.moves.specs.Moves.{requeue}
 use Rattle.steps.specs.View.{plainly, stackAt}
 use Rattle.steps.specs.Step.{applied}
-use Rattle.agent.specs.Feed.{Trusted, Progress}
+use Rattle.agent.specs.Feed.{Trusted, Progress, Between}
 use Rattle.agent.specs.Look.{Looked}
 use Rattle.agent.proofs.FeedLaws.{trusted-next}
 use Rattle.agent.proofs.LookLaws.{place-low}
@@ -24,13 +24,13 @@ use Rattle.agent.proofs.feed.run_lines.Tie as tie
 abbrev Inv-loop : tie.InvT-loop
 Inv-loop library formed chunk out₀ state₀ held₀ read₀ wrote₀ out state held read wrote =
     (read ≤ length chunk) × (wrote ≤ length out) × (length out ≡ length out₀) × Trusted formed library state
-    × Progress library formed state₀ held₀ chunk out₀ out state held read wrote
+    × Progress library formed state₀ held₀ chunk out₀ out state held read wrote × Between held₀ held read
 
 abbrev μ-loop : tie.MeasureT-loop
 μ-loop library formed chunk out₀ state₀ held₀ read₀ wrote₀ out state held read wrote = length chunk - read
 
 loop-holds : tie.Need-loop-holds Inv-loop μ-loop
-loop-holds c = (omega arith, omega arith, refl, (c .before .before .before .pre), progress-start _ _ _ _ _ _)
+loop-holds c = (omega arith, omega arith, refl, (c .before .before .before .pre), progress-start _ _ _ _ _ _, inl (refl, refl))
 
 sub-if1 : tie.Need-sub-if1 Inv-loop μ-loop
 sub-if1 c = search needs
@@ -42,7 +42,7 @@ same-length : tie.Need-same-length Inv-loop μ-loop
 same-length c = search needs
 
 returns : tie.Need-returns Inv-loop μ-loop
-returns c = rw ((c .stopped) .ensures) (record { progress = (c .before .before .before .loop) .inv .4; within = (c .before .before .before .loop) .inv .0; room = (c .before .before .before .loop) .inv .1; whole = λ h. omega arith })
+returns c = rw ((c .stopped) .ensures) (record { progress = (c .before .before .before .loop) .inv .4; within = (c .before .before .before .loop) .inv .0; room = (c .before .before .before .loop) .inv .1; whole = λ h. omega arith; stops = λ h. (c .before .before .before .loop) .inv .5 })
 
 next-line-requires : tie.Need-next-line-requires Inv-loop μ-loop
 next-line-requires c κs = search needs
@@ -70,6 +70,7 @@ returns-2 c =
       within = omega arith;
       room = (c .before .before .before .before .before .before .before .loop) .inv .1;
       whole = λ h. absurd (omega arith);
+      stops = λ h. absurd (omega arith);
     })
 
 no-line-requires : tie.Need-no-line-requires Inv-loop μ-loop
@@ -156,7 +157,8 @@ loop-again c =
       kept ∙ l .inv .2,
       subst⁻¹ (Trusted _ _) after (trusted-next _ _ _ (l .inv .3) _ (applied (l .state) t) ((c .before .before .before .before .before .before .before .before .before .before .before .before .before .before .before .act) .ensures)),
       progress-as after
-          (progress-line _ _ _ _ _ _ (l .inv .4) (g .0 .0) (g .0 .1 .0) told (applied (l .state) t) ((c .before .before .before .before .before .before .before .before .before .before .before .before .before .before .before .act) .ensures) w ((c .before .before .before .before .before .before .before .before .before .before .before .before .before .before .before .before .before .before .before .before .no-line) .result) ((c .before .before .before .before .before .before .before .before .before .before .before .before .before .before .before .before .before .before .before .before .no-line) .ensures)),
+          (progress-line _ _ _ _ _ _ (l .inv .4) (omega (arith, room, l .inv .2)) (g .0 .0) (g .0 .1 .0) told (applied (l .state) t) ((c .before .before .before .before .before .before .before .before .before .before .before .before .before .before .before .act) .ensures) w ((c .before .before .before .before .before .before .before .before .before .before .before .before .before .before .before .before .before .before .before .before .no-line) .result) ((c .before .before .before .before .before .before .before .before .before .before .before .before .before .before .before .before .before .before .before .before .no-line) .ensures)),
+      inr ((c .before .before .before .before .before .before .before .before .before .before .before .before .before .before .before .before .before .before .before .before .no-line) .ensures),
     )
 
 plain-result-requires : tie.Need-plain-result-requires Inv-loop μ-loop
@@ -185,7 +187,8 @@ loop-again-2 c =
       omega (arith, w .within, kept),
       kept ∙ l .inv .2,
       l .inv .3,
-      progress-line _ _ _ _ _ _ (l .inv .4) (g .0 .0) (g .0 .1 .0) told (plainly (l .state) ((c .before .before .before .before .before .before .look) .given .0 .0)) h w ((c .before .before .before .before .before .before .before .before .before .no-line) .result) ((c .before .before .before .before .before .before .before .before .before .no-line) .ensures),
+      progress-line _ _ _ _ _ _ (l .inv .4) (omega (arith, l .inv .2)) (g .0 .0) (g .0 .1 .0) told (plainly (l .state) ((c .before .before .before .before .before .before .look) .given .0 .0)) h w ((c .before .before .before .before .before .before .before .before .before .no-line) .result) ((c .before .before .before .before .before .before .before .before .before .no-line) .ensures),
+      inr ((c .before .before .before .before .before .before .before .before .before .no-line) .ensures),
     )
 
 stopped-requires-3 : tie.Need-stopped-requires-3 Inv-loop μ-loop
@@ -195,7 +198,7 @@ same-length-3 : tie.Need-same-length-3 Inv-loop μ-loop
 same-length-3 c = search needs
 
 returns-3 : tie.Need-returns-3 Inv-loop μ-loop
-returns-3 c = rw ((c .stopped3) .ensures) (record { progress = (c .before .before .loop) .inv .4; within = (c .before .before .loop) .inv .0; room = (c .before .before .loop) .inv .1; whole = λ h. absurd (omega arith) })
+returns-3 c = rw ((c .stopped3) .ensures) (record { progress = (c .before .before .loop) .inv .4; within = (c .before .before .loop) .inv .0; room = (c .before .before .loop) .inv .1; whole = λ h. absurd (omega arith); stops = λ h. absurd (omega arith) })
 
 pub run-lines-spec : {M : Type 1} → statement M
 run-lines-spec =

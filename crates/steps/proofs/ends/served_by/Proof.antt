@@ -1,13 +1,13 @@
--- `agent::ends::served_by` meets its contract: the external event at the bottom, else the goal of the instance below.
+-- `steps::ends::served_by` meets its contract: the external event at the bottom, else the goal of the instance below.
 use borrow.Author.Needs.{needs}
 use native.Mathlib.Omega.{arith}
 use Prim.Native.Nat.{_<_}
 use mathlib.Core.Path.{_≡_, ap, _∙_}
 use Rattle.model.specs.Live.{goalOf}
 use Rattle.state.specs.View.{depthOf}
-use Rattle.agent.proofs.TurnLaws.{serves-external, serves-goal}
-use Rattle.agent.proofs.ends.served_by.Statement.{statement}
-use Rattle.agent.proofs.ends.served_by.Tie as tie
+use Rattle.steps.proofs.EndLaws.{serves-external, serves-goal}
+use Rattle.steps.proofs.ends.served_by.Statement.{statement}
+use Rattle.steps.proofs.ends.served_by.Tie as tie
 
 depth-of-requires : tie.Need-depth-of-requires
 depth-of-requires c κs = search needs
