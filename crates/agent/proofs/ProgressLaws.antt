@@ -6,6 +6,7 @@ use mathlib.Core.Bool.{Bool}
 use mathlib.Core.Option.{Option, some}
 use mathlib.Core.List.{List, [], _∷_, _++_, append-assoc}
 use lib.ListN.{length, drop, drop-of-length-le}
+use lib.Seq.{take-length}
 use Rattle.model.specs.State.{Call, viewResult}
 use Rattle.state.specs.declared.State.{State}
 use Rattle.printing.specs.LineText.{resultText, mostLine}
@@ -16,15 +17,15 @@ use Rattle.reading.specs.Spoken.{meaning}
 use Rattle.stream.specs.declared.Carry.{Carry}
 use Rattle.stream.specs.declared.Next.the-variants.{Line, Used}
 use Rattle.stream.specs.Carried.{begun, more}
-use Rattle.stream.specs.Calls.{callsFrom, nextLine, shown}
-use Rattle.stream.proofs.ChunkLaws.{line-ends, line-goes-on}
+use Rattle.stream.specs.Calls.{callsFrom, lineAfter, nextLine, shown}
+use Rattle.stream.proofs.ChunkLaws.{line-ends, line-goes-on, line-after, used-after}
 use Rattle.steps.specs.declared.Acted.{Acted}
 use Rattle.agent.specs.Feed.{Responds, none-yet, then, silent, roomy, Progress}
 
 module _ (bytes : List ℕ) (formed : Bool) (s : State) (carry : Carry) (chunk before : List ℕ) where
   -- nothing is read yet
   pub progress-start : Progress bytes formed s carry chunk before before s carry 0 0
-  progress-start = record { calls = []; text = []; said = λ rest. refl; runs = none-yet; written = nothing; roomy = silent }
+  progress-start = record { calls = []; text = []; said = λ rest. refl; runs = none-yet; written = nothing; roomy = silent; so-far = refl }
 
   module _ {after : List ℕ} {t : State} {held : Carry} {read wrote : ℕ} (p : Progress bytes formed s carry chunk before after t held read wrote) where
     -- a line ends: it is run, and its result printed where there is room for the longest
@@ -44,6 +45,7 @@ module _ (bytes : List ℕ) (formed : Bool) (s : State) (carry : Carry) (chunk b
           runs = then (p .runs) (meaning call) r h;
           written = record { bytes = both .bytes; past = both .past; within = omega arith };
           roomy = roomy (p .text) (viewResult (r .result)) (omega (arith, p .written .past, room));
+          so-far = new ∙ sym (line-after chunk read held call behind told (begun carry));
         }
 
     -- no line ends in what is left of the chunk
@@ -58,6 +60,7 @@ module _ (bytes : List ℕ) (formed : Bool) (s : State) (carry : Carry) (chunk b
       runs = p .runs;
       written = p .written;
       roomy = p .roomy;
+      so-far = new ∙ used-after chunk read held told (begun carry) (p .so-far) ∙ ap (lineAfter (begun carry)) (sym (take-length chunk));
     }
 
 -- what was written is within the output

@@ -17,7 +17,7 @@ use Rattle.printing.specs.LineText.{resultText, mostLine}
 use Rattle.printing.specs.Writing.{Wrote}
 use Rattle.stream.specs.declared.Carry.{Carry}
 use Rattle.stream.specs.Carried.{begun}
-use Rattle.stream.specs.Calls.{callsFrom}
+use Rattle.stream.specs.Calls.{callsFrom, lineAfter}
 use Rattle.steps.specs.declared.Acted.{Acted}
 use Rattle.load.specs.declared.Agent.{Agent}
 use Rattle.agent.specs.declared.Replied.{Replied}
@@ -100,6 +100,7 @@ pub record Progress (bytes : List ℕ) (formed : Bool) (s : State) (carry : Carr
   pub runs : Runs bytes formed s calls text t
   pub written : Wrote wrote before after 0 wrote text
   pub roomy : Roomy (length before) text
+  pub so-far : begun held ≡ lineAfter (begun carry) (take read chunk)
 
 -- the whole chunk, unless the output has no room for the longest line any more
 pub record RunsChunk (bytes : List ℕ) (formed : Bool) (s : State) (carry : Carry) (chunk before after : List ℕ) (r : Ran) : Type 0 where
@@ -107,7 +108,7 @@ pub record RunsChunk (bytes : List ℕ) (formed : Bool) (s : State) (carry : Car
   pub within : r .read ≤ length chunk
   pub room : r .wrote ≤ length after
   pub whole : r .read < length chunk → length after < r .wrote + mostLine
-  pub stops : r .read < length chunk → Between carry (r .carry) (r .read)
+  pub stops : length after < r .wrote + mostLine → Between carry (r .carry) (r .read)
 
 -- the same for a library in the first bytes of an array, tested once
 pub record RunsOn (library : List ℕ) (size : ℕ) (s : State) (carry : Carry) (chunk before after : List ℕ) (r : Ran) : Type 0 where
@@ -117,8 +118,8 @@ pub record RunsOn (library : List ℕ) (size : ℕ) (s : State) (carry : Carry) 
 
 -- what a chunk gives, by the contracts of the agent's calls: what the input says is what the lines run have said, and then what is
 -- left of it; their answers stand at the output's start, and every other byte is as it was.
--- All of the chunk is read, unless the output has no room for the longest line any more: no line is run without this room,
--- and where a chunk is not read whole, nothing behind the last line run is read
+-- The line so far is the one behind what was read. All of the chunk is read, unless the output has no room for the longest line any more:
+-- no line is run without this room, and where it is missing nothing behind the last line run is read
 pub record Feeds (a : Agent) (carry : Carry) (chunk before after : List ℕ) (r : Fed) : Type 0 where
   pub calls : List (Option Call)
   pub text : List ℕ
@@ -127,7 +128,8 @@ pub record Feeds (a : Agent) (carry : Carry) (chunk before after : List ℕ) (r 
   pub journal : Journal a calls text (r .agent)
   pub written : Wrote (r .wrote) before after 0 (r .wrote) text
   pub roomy : Roomy (length before) text
+  pub so-far : begun (r .carry) ≡ lineAfter (begun carry) (take (r .read) chunk)
   pub within : r .read ≤ length chunk
   pub room : r .wrote ≤ length after
   pub whole : r .read < length chunk → length after < r .wrote + mostLine
-  pub stops : r .read < length chunk → Between carry (r .carry) (r .read)
+  pub stops : length after < r .wrote + mostLine → Between carry (r .carry) (r .read)

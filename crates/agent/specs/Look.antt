@@ -51,7 +51,8 @@ module _ (formed : Bool) (stacks : List Stack) (stacked queued : ℕ) where
       × (place ≡ position isRunning (viewed stacks stacked)) × (place < stacked)
   Looks call (look.Tells place worked) =
       (formed ≡ true)
-      × ((id : ℕ) × (call ≡ some (outcome id worked)) × (place ≡ position (isAwaiting id) (viewed stacks stacked)) × (place < stacked))
+      × ((id : ℕ) × (call ≡ some (outcome id worked)) × (place ≡ position (isAwaiting id) (viewed stacks stacked))
+      × (place < stacked))
 
 -- the same of a state, the answer by what it is for every library that the state is trusted with
 abbrev pub Looked : Bool → State → Option Call → Look → Type 0

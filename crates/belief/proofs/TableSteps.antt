@@ -8,20 +8,33 @@ use mathlib.Core.Bool.{Bool, true, false, not, _&&_, and-false}
 use mathlib.Core.List.{List, _∷_}
 use lib.ListN.{length, take, drop, getD, set, length-take, length-drop, drop-of-length-le}
 use lib.Seq.{drop-cons, getD-take}
-use lib.Dec.{ltb}
-use borrow.Author.Tests.{lt-ltb, le-ltb, le-leb, lt-leb}
+use lib.Dec.{ltb, leb}
+use borrow.Author.Tests.{lt-ltb, le-ltb, le-leb, lt-leb, ltb-true, ltb-false, leb-true, leb-false}
 use Rattle.lists.specs.Search.{any, all, distinct, position}
 use Rattle.lists.specs.Gap.{closeGap}
+use Rattle.lists.proofs.BoolLaws.{by-cases}
 use Rattle.lists.proofs.SearchLaws.{any-position}
 use Rattle.literal.specs.declared.Literal.{Literal}
 use Rattle.literal.specs.Literal.{isGround, same}
 use Rattle.belief.specs.declared.Beliefs.{Beliefs}
 use Rattle.belief.specs.declared.Applied.{Applied}
-use Rattle.belief.specs.Beliefs.{size, view, holds, areSound}
+use Rattle.belief.specs.Beliefs.{mostBeliefs, size, view, holds, areSound}
 use Rattle.belief.specs.Table.{unchanged, add, remove, isTable}
 
 pub length-view : (b : Beliefs) → length (b .items) ≡ 64 → length (view b) ≡ size b
 length-view b len = length-take (size b) (b .items) ∙ omega arith
+
+-- a table has room by its count just where it has by its beliefs, and is full just where they fill it
+module _ (b : Beliefs) (len : length (b .items) ≡ 64) where
+  pub view-room : ltb (length (view b)) mostBeliefs ≡ ltb (b .count) mostBeliefs
+  view-room = by-cases (ltb (b .count) mostBeliefs)
+      (λ p. lt-ltb (length (view b)) mostBeliefs (omega (arith, length-view b len, ltb-true (b .count) mostBeliefs p)) ∙ sym p)
+      (λ p. le-ltb (length (view b)) mostBeliefs (omega (arith, length-view b len, ltb-false (b .count) mostBeliefs p)) ∙ sym p)
+
+  pub view-full : leb mostBeliefs (length (view b)) ≡ leb mostBeliefs (b .count)
+  view-full = by-cases (leb mostBeliefs (b .count))
+      (λ p. le-leb mostBeliefs (length (view b)) (omega (arith, length-view b len, leb-true mostBeliefs (b .count) p)) ∙ sym p)
+      (λ p. lt-leb mostBeliefs (length (view b)) (omega (arith, length-view b len, leb-false mostBeliefs (b .count) p)) ∙ sym p)
 
 -- ---- A literal held, added, removed
 

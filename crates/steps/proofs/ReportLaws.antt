@@ -1,5 +1,5 @@
 -- What the code of a report answers, in the model's terms.
-use Prim.Native.Nat.{ℕ, suc, _+_, _-_, _<_, _≤_, min}
+use Prim.Native.Nat.{ℕ, suc, _+_, _-_, _<_, _≤_}
 use native.Mathlib.Omega.{arith}
 use mathlib.Core.Path.{_≡_, refl, ap, sym, subst⁻¹, _∙_}
 use mathlib.Core.Bool.{Bool, true, false}
@@ -7,13 +7,13 @@ use mathlib.Core.List.{List, [], _∷_, _++_}
 use lib.ListN.{length, take, getD}
 use lib.Seq.{take-suc}
 use lib.Dec.{leb, eqb}
-use borrow.Author.Tests.{leb-true, leb-false, le-leb, lt-leb, le-ltb, lt-ltb, eq-eqb, ne-eqb, eqb-true, eqb-false}
+use borrow.Author.Tests.{leb-false, le-leb, lt-leb, le-ltb, lt-ltb, eq-eqb, ne-eqb, eqb-true, eqb-false}
 use Rattle.lists.specs.Counts.{bit, count}
 use Rattle.lists.proofs.CountLaws.{total-append}
 use Rattle.belief.specs.declared.Beliefs.{Beliefs}
 use Rattle.belief.specs.declared.Change.{Change}
 use Rattle.belief.specs.Beliefs.{view, holds}
-use Rattle.belief.proofs.TableSteps.{length-view}
+use Rattle.belief.proofs.TableSteps.{view-full}
 use Rattle.literal.specs.declared.Literal.{Literal}
 use Rattle.literal.specs.Literal.{isGround}
 use Rattle.model.specs.declared.Event.{Event}
@@ -38,12 +38,6 @@ use Rattle.trials.proofs.TrialLaws.{untouched-alters}
 use Rattle.steps.proofs.GivesLaws.{replies-as, gives-as, gives-same, gives-answer}
 use Rattle.steps.proofs.CountLaws.{counts-enqueue}
 use Rattle.steps.proofs.StepLaws.{step-replies}
-
--- the lesser of a number and 64 is 64 just where the number is not below it
-least-full : (n : ℕ) → leb 64 (min n 64) ≡ leb 64 n
-least-full n = by-cases (leb 64 n)
-    (λ p. le-leb 64 (min n 64) (omega (arith, leb-true 64 n p)) ∙ sym p)
-    (λ p. lt-leb 64 (min n 64) (omega (arith, leb-false 64 n p)) ∙ sym p)
 
 -- one event more, from the end
 pub count-back : (test : Event → Bool) (xs : List Event) (n : ℕ) (d : Event) (b : Bool) → 0 < n → n ≤ length xs → test (getD xs (n - 1) d) ≡ b
@@ -77,7 +71,7 @@ module _ (b : Beliefs) (kind : ℕ) (l : Literal) where
 
     pub overfull-new : holds (view b) l ≡ false → length (b .items) ≡ 64 → leb 64 (b .count) ≡ isOverfull (view b) kind l
     unfolding isOverfull
-    overfull-new h len = rw (eq-eqb kind 0 k, h) (sym (ap (leb 64) (length-view b len) ∙ least-full (b .count)))
+    overfull-new h len = rw (eq-eqb kind 0 k, h) (sym (view-full b len))
 
 -- ---- The refusal's number
 

@@ -1,14 +1,14 @@
 -- What a chunk does to the calls of an input: a line that ends in it says its call, and one that does not goes on after it.
 use Prim.Native.Nat.{ℕ, suc, _+_, _-_, _≤_, _<_}
-use mathlib.Core.Path.{_≡_, sym, ap, _∙_}
+use mathlib.Core.Path.{_≡_, refl, sym, ap, _∙_}
 use mathlib.Core.Bool.{true, false}
 use mathlib.Core.Option.{Option, none, some}
 use mathlib.Core.List.{List, [], _∷_, _++_}
 use native.Mathlib.Numerals.{add-one}
 use native.Mathlib.Omega.{arith}
 use lib.Dec.{ltb}
-use lib.ListN.{length, take, drop, getD, length-drop, drop-of-length-le}
-use lib.Seq.{drop-drop, drop-cons}
+use lib.ListN.{length, take, drop, getD, length-drop, drop-of-length-le, take-append-drop}
+use lib.Seq.{take-add, drop-drop, drop-cons}
 use borrow.Author.Tests.{lt-ltb, le-ltb, ltb-true, ltb-false}
 use Rattle.lists.specs.Search.{position}
 use Rattle.lists.proofs.BoolLaws.{by-cases}
@@ -21,7 +21,7 @@ use Rattle.stream.specs.declared.Carry.{Carry}
 use Rattle.stream.specs.declared.Next.the-variants.{Line, Used}
 use Rattle.stream.specs.Lines.{isNewline}
 use Rattle.stream.specs.Carried.{begun, more, said}
-use Rattle.stream.specs.Calls.{callsFrom, lineEnd, Ended, endedAt, nextLine, shown}
+use Rattle.stream.specs.Calls.{callsFrom, lineAfter, lineEnd, Ended, endedAt, nextLine, shown}
 use Rattle.stream.proofs.CarryLaws.{Kept, more-twice, more-stays, begun-kept}
 
 -- ---- The place of the first newline
@@ -86,6 +86,31 @@ no-newline-in held (b ∷ bytes) rest k h =
     let later = first-later b bytes e in
     let on = no-newline-in (more held (b ∷ [])) bytes rest (more-stays held (b ∷ [])) (omega arith) in
     rw e (on ∙ ap (λ o. callsFrom o rest) (more-twice held (b ∷ []) bytes)))
+
+-- ---- The line so far behind them
+
+after-join : (held : Option (List ℕ)) (xs ys : List ℕ) → lineAfter held (xs ++ ys) ≡ lineAfter (lineAfter held xs) ys
+after-join held [] ys = refl
+after-join held (b ∷ xs) ys = by-cases (isNewline b) (λ e. rw e (after-join (some []) xs ys)) (λ e. rw e (after-join (more held (b ∷ [])) xs ys))
+
+-- behind the first newline nothing has begun
+after-newline : (held : Option (List ℕ)) (bytes : List ℕ) → position isNewline bytes < length bytes
+    → lineAfter held (take (suc (position isNewline bytes)) bytes) ≡ some []
+after-newline held [] h = absurd (omega arith)
+after-newline held (b ∷ bytes) h =
+    by-cases (isNewline b)
+    (λ e. rw (first-here b bytes e, e))
+    (λ e. let later = first-later b bytes e in rw (later, e) (after-newline (more held (b ∷ [])) bytes (omega arith)))
+
+-- without one the line goes on
+after-none : (held : Option (List ℕ)) (bytes : List ℕ) → Kept held → length bytes ≤ position isNewline bytes → lineAfter held bytes ≡ more held bytes
+after-none held [] k h = sym k
+after-none held (b ∷ bytes) k h =
+    by-cases (isNewline b)
+    (λ e. absurd (omega (arith, first-here b bytes e)))
+    (λ e.
+    let later = first-later b bytes e in
+    rw e (after-none (more held (b ∷ [])) bytes (more-stays held (b ∷ [])) (omega arith) ∙ more-twice held (b ∷ []) bytes))
 
 -- ---- A chunk from a place on
 
@@ -152,3 +177,24 @@ module _ (chunk : List ℕ) (at : ℕ) (carry : Carry) where
   pub line-goes-on : (held : Carry) (rest : List ℕ) → shown Used ≡ nextLine chunk at (begun carry) → begun held ≡ more (begun carry) (drop at chunk)
       → callsFrom (begun carry) (drop at chunk ++ rest) ≡ callsFrom (begun held) rest
   line-goes-on held rest h e = goes-on chunk at (begun carry) (begun-kept carry) rest h ∙ ap (λ o. callsFrom o rest) (sym e)
+
+  -- what is held, from a line so far at the chunk's start: nothing behind a line's end
+  pub line-after : (call : Spoken) (behind : ℕ) → shown (Line call behind) ≡ nextLine chunk at (begun carry) → (start : Option (List ℕ))
+      → lineAfter start (take behind chunk) ≡ some []
+  line-after call behind h start =
+      let t = told-line chunk at (begun carry) (record { call = meaning call; next = behind }) h in
+      let place = position isNewline (drop at chunk) in
+      let n : behind ≡ at + suc place = ap (λ (x : Ended). x .next) (t .1) ∙ omega arith in
+      rw (n, take-add at (suc place) chunk)
+      (after-join start (take at chunk) (take (suc place) (drop at chunk))
+      ∙ after-newline (lineAfter start (take at chunk)) (drop at chunk) (omega (arith, t .0, length-drop at chunk)))
+
+  -- and at the chunk's end the rest of it behind what was held
+  pub used-after : shown Used ≡ nextLine chunk at (begun carry) → (start : Option (List ℕ)) → begun carry ≡ lineAfter start (take at chunk)
+      → more (begun carry) (drop at chunk) ≡ lineAfter start chunk
+  used-after h start e =
+      let past = told-used chunk at (begun carry) h in
+      sym (after-none (begun carry) (drop at chunk) (begun-kept carry) (omega (arith, past, length-drop at chunk)))
+      ∙ ap (λ (o : Option (List ℕ)). lineAfter o (drop at chunk)) e
+      ∙ sym (after-join start (take at chunk) (drop at chunk))
+      ∙ ap (lineAfter start) (take-append-drop at chunk)

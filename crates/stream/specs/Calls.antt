@@ -30,6 +30,11 @@ abbrev pub callsFrom : Option (List ℕ) → List ℕ → List (Option Call)
 callsFrom held [] = atEnd held
 callsFrom held (b ∷ bytes) = cond (isNewline b) (said held ∷ callsFrom (some []) bytes) (callsFrom (more held (b ∷ [])) bytes)
 
+-- the line so far behind some bytes
+abbrev pub lineAfter : Option (List ℕ) → List ℕ → Option (List ℕ)
+lineAfter held [] = held
+lineAfter held (b ∷ bytes) = cond (isNewline b) (lineAfter (some []) bytes) (lineAfter (more held (b ∷ [])) bytes)
+
 -- ---- A chunk of it, from a place on
 
 -- where the line that stands there ends: at its newline, or with the chunk

@@ -8,7 +8,7 @@ use mathlib.Core.List.{List, [], _∷_, _++_, append-nil, append-assoc}
 use lib.ListN.{length, take, drop, set, getD, drop-of-length-le}
 use lib.Seq.{take-suc-set, drop-cons}
 use lib.Dec.{ltb}
-use borrow.Author.Tests.{lt-ltb, le-ltb, ltb-true, ltb-false}
+use borrow.Author.Tests.{ltb-true}
 use Rattle.lists.specs.Search.{position}
 use Rattle.lists.proofs.BoolLaws.{by-cases}
 use Rattle.literal.specs.declared.Literal.{Literal}
@@ -19,7 +19,7 @@ use Rattle.belief.specs.declared.Change.{Change}
 use Rattle.belief.specs.declared.Applied.{Applied}
 use Rattle.belief.specs.Beliefs.{mostBeliefs, view, holds, replay}
 use Rattle.belief.specs.Table.{addBy, add, removeBy, remove}
-use Rattle.belief.proofs.TableSteps.{length-view}
+use Rattle.belief.proofs.TableSteps.{view-room}
 use Rattle.belief.proofs.BeliefLaws.{add-view, remove-view, remove-changed, replay-join}
 use Rattle.library.specs.declared.Action.{Action}
 use Rattle.library.specs.Plan.{noAction}
@@ -29,12 +29,6 @@ use Rattle.trials.specs.declared.changes.Altered.{Altered}
 use Rattle.trials.specs.Altered.{changesOf, untouched, Alters, Extends, Changed}
 
 -- ---- One change
-
--- a number is below a bound just where the lesser of the two is
-min-below : (n most : ℕ) → ltb (min n most) most ≡ ltb n most
-min-below n most = by-cases (ltb n most)
-    (λ p. lt-ltb (min n most) most (omega (arith, ltb-true n most p)) ∙ sym p)
-    (λ p. le-ltb (min n most) most (omega (arith, ltb-false n most p)) ∙ sym p)
 
 module _ (b : Beliefs) (c : Change) where
   pub change-open : isGround (c .literal) ≡ false → Changed b c (record { table = b; changed = false; fitted = false })
@@ -81,12 +75,9 @@ module _ (b : Beliefs) (c : Change) where
       few = removed-few;
     }
 
-    room : ltb (length (view b)) mostBeliefs ≡ ltb (b .count) mostBeliefs
-    room = ap (λ (n : ℕ). ltb n mostBeliefs) (length-view b len) ∙ min-below (b .count) mostBeliefs
-
     added-effect : c .removes ≡ false → effective (view b) c ≡ when (not (holds (view b) (c .literal)) && ltb (b .count) mostBeliefs) c
     unfolding effective alters
-    added-effect r = rw (g, r, room)
+    added-effect r = rw (g, r, view-room b len)
 
     added-fitted : add b (c .literal) .fitted ≡ (holds (view b) (c .literal) || ltb (b .count) mostBeliefs)
     unfolding add
@@ -129,7 +120,7 @@ module _ (b : Beliefs) (c : Change) where
     pub change-adds : c .removes ≡ false → Changed b c (add b (c .literal))
     unfolding isPossible
     change-adds r = record {
-      possible = added-fitted ∙ rw (g, r, room);
+      possible = added-fitted ∙ rw (g, r, view-room b len);
       effect = ap (λ (q : Bool). when q c) added-changed ∙ sym (added-effect r);
       table = added-table r ∙ ap (replay (view b)) (sym (added-effect r));
       few = added-few;

@@ -1,4 +1,4 @@
--- What the code's trial of a branch means: the model's Try.
+-- What the code's trial of a branch means: the model's Try (document 01, "Cycle", step 4).
 use mathlib.Core.Path.{_≡_}
 use mathlib.Core.List.{List, []}
 use Rattle.literal.specs.declared.Env.{Env}

@@ -24,6 +24,7 @@ returns c =
       journal = runs-journal a (on .bytes) (isWellFormedAgent a) refl (on .own) (p .runs);
       written = p .written;
       roomy = p .roomy;
+      so-far = p .so-far;
       within = on .ran .within;
       room = on .ran .room;
       whole = on .ran .whole;

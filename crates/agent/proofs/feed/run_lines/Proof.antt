@@ -198,7 +198,7 @@ same-length-3 : tie.Need-same-length-3 Inv-loop μ-loop
 same-length-3 c = search needs
 
 returns-3 : tie.Need-returns-3 Inv-loop μ-loop
-returns-3 c = rw ((c .stopped3) .ensures) (record { progress = (c .before .before .loop) .inv .4; within = (c .before .before .loop) .inv .0; room = (c .before .before .loop) .inv .1; whole = λ h. absurd (omega arith); stops = λ h. absurd (omega arith) })
+returns-3 c = rw ((c .stopped3) .ensures) (record { progress = (c .before .before .loop) .inv .4; within = (c .before .before .loop) .inv .0; room = (c .before .before .loop) .inv .1; whole = λ h. absurd (omega arith); stops = λ h. (c .before .before .loop) .inv .5 })
 
 pub run-lines-spec : {M : Type 1} → statement M
 run-lines-spec =

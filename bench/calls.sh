@@ -1,0 +1,115 @@
+#!/usr/bin/env bash
+# Times the agent's public cycle by itself, a million times and idle: on an agent without events, and beside one waiting stack.
+#   bench/calls.sh [RUNS]     prints microseconds a cycle, processor time, for each of RUNS runs (5 unless given)
+# The program is proved and built in a copy of this repository, since the gate need not wait for it. What target/ has is not proved again.
+set -euo pipefail
+cd "$(dirname "$0")/.."
+runs=${1:-5}
+
+copy=$(mktemp -d)
+trap 'rm -rf "$copy"' EXIT
+git ls-files -z crates.txt crates | xargs -0 cp --parents -t "$copy"
+mkdir -p "$copy/target" "$copy/crates/cycles/src" "$copy/crates/cycles/proofs/run"
+for part in rlib stamp; do
+    [ ! -d "target/$part" ] || cp -R "target/$part" "$copy/target/"
+done
+sed -n 's/^canarystand: /cycles: /p' crates.txt >> "$copy/crates.txt"
+
+cat > "$copy/crates/cycles/src/main.rt" << 'END'
+// A million cycles by the agent's public call: on an agent without events, or, where there is any input, beside one waiting stack.
+use agent::calls;
+use libc::STDIN_FILENO;
+use libc::STDOUT_FILENO;
+use literal::Literal;
+use load::Agent;
+
+fn run(a: Agent, n: usize) -> Agent {
+    let mut agent = a;
+    let mut i: usize = 0;
+    while i < n {
+        let replied = calls::cycle(agent);
+        agent = replied.agent;
+        i += 1;
+    }
+    agent
+}
+
+fn reported(a: Agent) -> Agent {
+    let belief = Literal {
+        head: 1,
+        first: 5,
+        second: 0,
+        third: 0,
+    };
+    let replied = calls::report(a, 0, belief);
+    replied.agent
+}
+
+fn main() {
+    let loaded = load::load(&[
+        1, 0, 0, 0, 8, 0, 50, 0, 0, 0, 1, 0, 248, 255, 0, 0, 0, 0, 1, 0, 0, 0, 1, 0, 0, 0, 1, 0, 1, 0, 1, 0,
+        248, 255, 0, 0, 0, 0, 0, 0, 2, 0, 1, 0, 2, 0, 9, 0, 248, 255, 0, 0, 0, 0, 1, 0, 0, 0,
+    ]);
+    let mut agent = loaded.agent;
+    let mut input = [0u8; 1];
+    if 0 < io::read_full(STDIN_FILENO, &mut input) {
+        agent = reported(agent);
+    }
+    let last = run(agent, 1000000);
+    if last.length == 0 {
+        io::write_all(STDOUT_FILENO, b"no library");
+    }
+}
+END
+
+cat > "$copy/crates/cycles/proofs/run/Proof.antt" << 'END'
+use borrow.Author.Needs.{needs}
+use native.Mathlib.Omega.{arith}
+use Prim.Native.Nat.{_-_, _≤_}
+use Rattle.cycles.proofs.run.Statement.{statement}
+use Rattle.cycles.proofs.run.Tie as tie
+
+abbrev Inv-loop : tie.InvT-loop
+Inv-loop n agent₀ i₀ agent i = i ≤ n
+
+abbrev μ-loop : tie.MeasureT-loop
+μ-loop n agent₀ i₀ agent i = n - i
+
+loop-holds : tie.Need-loop-holds Inv-loop μ-loop
+loop-holds c = omega arith
+
+cycle-requires : tie.Need-cycle-requires Inv-loop μ-loop
+cycle-requires c κs = search needs
+
+add-i : tie.Need-add-i Inv-loop μ-loop
+add-i c = search needs
+
+loop-less : tie.Need-loop-less Inv-loop μ-loop
+loop-less c = omega arith
+
+loop-again : tie.Need-loop-again Inv-loop μ-loop
+loop-again c = omega arith
+
+returns : tie.Need-returns Inv-loop μ-loop
+returns c = search needs
+
+pub run-spec : {M : Type 1} → statement M
+run-spec =
+    tie.close
+    (tie.spec Inv-loop μ-loop loop-holds cycle-requires add-i loop-less loop-again returns)
+END
+
+(cd "$copy" && rt check cycles) > "$copy/log" 2>&1 || { tail -n 20 "$copy/log"; exit 1; }
+
+# cost NAME INPUT: the processor time of each run on a file
+cost() {
+    local TIMEFORMAT='%U %S'
+    printf '%s:' "$1"
+    for ((run = 0; run < runs; run++)); do
+        { time "$copy/target/bin/cycles" < "$2" > "$copy/out"; } 2>&1 | awk '{ printf " %.2f", $1 + $2 }'
+    done
+    echo
+}
+echo . > "$copy/input"
+cost 'without events' /dev/null
+cost 'beside one waiting stack' "$copy/input"
