@@ -2,4 +2,5 @@ pub mod SessionLaws
 pub mod AnswerLaws
 pub mod PieceLaws
 pub mod OutputLaws
+pub mod OneAnswer
 pub mod SmallCases

@@ -8,6 +8,7 @@ use lib.Dec.{eqb}
 use lib.ListN.{length}
 use borrow.Author.Tests.{ne-eqb}
 use Rattle.lists.specs.Counts.{each}
+use Rattle.library.specs.Plan.{Library}
 use Rattle.library.specs.Layout.{libraryOf}
 use Rattle.accepted.specs.Refusal.{refusalOf}
 use Rattle.model.specs.State.{AgentState, Call, Reply}
@@ -35,6 +36,11 @@ use Rattle.journal.proofs.AnswerLaws.{journal-chain}
 
 -- ---- Line by line
 
+-- the state after what lines say
+abbrev pub stateTo : Library → AgentState → List (Option Call) → AgentState
+stateTo library s [] = s
+stateTo library s (said ∷ more) = stateTo library (replyTo library s said .state) more
+
 module _ (bytes : List ℕ) (accepted : refusalOf bytes ≡ 0) where
   held-reply : (a : Agent) → Held bytes a → (link : Link) → Calls a (link .call) (link .given)
       → viewReplied (link .given) ≡ replyTo (libraryOf bytes) (viewState (a .state)) (some (link .call))
@@ -56,13 +62,36 @@ module _ (bytes : List ℕ) (accepted : refusalOf bytes ≡ 0) where
       let s = journal-chain j in
       sym (s .printed) ∙ texts-computed h (s .answers) (s .chain) ∙ ap (answersTo (libraryOf bytes) (viewState (a .state))) (s .lines)
 
+  states-computed : {a b : Agent} → Held bytes a → (answers : List (Option Link)) → Chain a (linksOf answers) b
+      → viewState (b .state) ≡ stateTo (libraryOf bytes) (viewState (a .state)) (map callIn answers)
+  unfolding replyTo respondBy
+  states-computed h [] Chain.start = refl
+  states-computed h (none ∷ answers) c = states-computed h answers c
+  states-computed {a} h (some link ∷ answers) (Chain.then l k rest) =
+      states-computed (held-next bytes accepted a h link k) answers rest
+      ∙ ap (λ (y : Reply). stateTo (libraryOf bytes) (y .state) (map callIn answers)) (held-reply a h link k)
+
+  held-state : {a b : Agent} {calls : List (Option Call)} {text : List ℕ} → Held bytes a → Journal a calls text b
+      → viewState (b .state) ≡ stateTo (libraryOf bytes) (viewState (a .state)) calls
+  held-state {a} h j =
+      let s = journal-chain j in
+      states-computed h (s .answers) (s .chain) ∙ ap (stateTo (libraryOf bytes) (viewState (a .state))) (s .lines)
+
+-- a well-formed agent holds its library
+holds-own : (a : Agent) → isWellFormedAgent a ≡ true → Held (bytesOf a) a
+holds-own a e =
+    let w = test-parts (a .library) (a .length) (a .state) e in
+    record { size = test-within (a .library) (a .length) (a .state) e; bytes-are = refl; fit = w .fit; formed = w .formed }
+
 -- the text of a journal on a well-formed agent is computed from its library, its state and what the lines say
 pub journal-computed : {a b : Agent} {calls : List (Option Call)} {text : List ℕ} → isWellFormedAgent a ≡ true → Journal a calls text b
     → text ≡ answersTo (libraryOf (bytesOf a)) (viewState (a .state)) calls
-journal-computed {a} e j =
-    let w = test-parts (a .library) (a .length) (a .state) e in
-    let h : Held (bytesOf a) a = record { size = test-within (a .library) (a .length) (a .state) e; bytes-are = refl; fit = w .fit; formed = w .formed } in
-    held-computed (bytesOf a) (w .accepted) h j
+journal-computed {a} e j = held-computed (bytesOf a) (test-parts (a .library) (a .length) (a .state) e .accepted) (holds-own a e) j
+
+-- and so is the state after it
+pub journal-state : {a b : Agent} {calls : List (Option Call)} {text : List ℕ} → isWellFormedAgent a ≡ true → Journal a calls text b
+    → viewState (b .state) ≡ stateTo (libraryOf (bytesOf a)) (viewState (a .state)) calls
+journal-state {a} e j = held-state (bytesOf a) (test-parts (a .library) (a .length) (a .state) e .accepted) (holds-own a e) j
 
 -- ---- A session on an agent that load gives
 

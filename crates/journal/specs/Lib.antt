@@ -1,4 +1,5 @@
 pub mod Session
 pub mod Answers
 pub mod Output
+pub mod OneAnswer
 pub mod Cases

@@ -89,7 +89,7 @@ no-newline-in held (b ∷ bytes) rest k h =
 
 -- ---- The line so far behind them
 
-after-join : (held : Option (List ℕ)) (xs ys : List ℕ) → lineAfter held (xs ++ ys) ≡ lineAfter (lineAfter held xs) ys
+pub after-join : (held : Option (List ℕ)) (xs ys : List ℕ) → lineAfter held (xs ++ ys) ≡ lineAfter (lineAfter held xs) ys
 after-join held [] ys = refl
 after-join held (b ∷ xs) ys = by-cases (isNewline b) (λ e. rw e (after-join (some []) xs ys)) (λ e. rw e (after-join (more held (b ∷ [])) xs ys))
 
