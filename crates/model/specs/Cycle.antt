@@ -1,4 +1,6 @@
 -- Cycle (document 01, "The three calls", Cycle; dMARS 8.1, eventselect and planselect; 8.4, SelectIntention).
+-- Departs from dMARS: the event taken up is the first pending one, where eventselect is the head of the queue; a stack runs while served
+-- events are queued, where SelectIntention asks for an empty queue.
 use mathlib.Core.Option.{Option, none, some}
 use mathlib.Core.List.{[]}
 use lib.ListN.{length}

@@ -1,5 +1,7 @@
--- The end of an instance (document 01, "Cycle", success and failure; dMARS 8.5, AchievePlan, AchievePlanAndIntention and FailPlan).
--- Departs from dMARS: no bindings flow back; a failed event keeps its place in the queue, also a bottom's.
+-- The end of an instance (document 01, "Cycle", success and failure; dMARS 8.5, AchievePlan, AchievePlanOnly, AchievePlanAndIntention
+-- and FailPlan).
+-- Departs from dMARS: no bindings flow back to the poster, which steps past its goal (AchievePlanOnly gives it bindings and makes it
+-- active); a failed event keeps its place in the queue (FailPlan leaves the place open), also a bottom's, whose failure 8.5 leaves out.
 use Prim.Native.Nat.{ℕ}
 use mathlib.Core.List.{List, [], _∷_}
 use Rattle.lists.specs.Search.{position}

@@ -1,5 +1,6 @@
 -- Outcome (document 01, "The three calls", Outcome; dMARS 8.4.1, BranchExtActionSucceed and BranchExtActionFail).
--- Departs from dMARS: the outcome comes by a call of its own, and is no second try.
+-- Departs from dMARS: the outcome comes by a call of its own, and is no second try; it binds nothing, where 8.4.1 composes the action's
+-- bindings into the environment.
 use Prim.Native.Nat.{ℕ}
 use mathlib.Core.Bool.{Bool, true, false, _&&_}
 use mathlib.Core.Option.{Option, none, some}

@@ -1,5 +1,6 @@
 -- The agent's state as lists (document 01, "State"; dMARS 7.1, Intention; 8.1, dMARSAgentState), its calls and what they give.
--- Departs from dMARS: queue and stacks have an order and a limit; served events stay in the queue.
+-- Departs from dMARS: the queue has a limit, the stacks an order and a limit. A served event stays in the queue, as in 8.3 (NewPlanInst
+-- puts it back in its place), until it is closed.
 use Prim.Native.Nat.{ℕ, min}
 use mathlib.Core.Bool.{Bool}
 use mathlib.Core.List.{List, []}

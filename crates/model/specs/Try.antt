@@ -1,6 +1,8 @@
 -- Trying a branch (document 01, "Cycle", step 4; dMARS 8.4.1 to 8.4.4, BranchExtActionSucceed, BranchIntAction,
 -- BranchQueryGoalSucc, BranchQueryGoalFail and BranchAchieveGoal).
--- Departs from dMARS: an external action waits for its outcome; a goal that is held is not posted; changes raise no events.
+-- Departs from dMARS: an external action waits for its outcome, and binds nothing (8.4.1 composes its bindings into the environment);
+-- changes raise no events; a query that no belief answers is posted, as the prose of 4.2 has it (8.4.3 fails it); an achieve that is held
+-- is stepped, as the prose of 8.4.4 has it (its schema posts it).
 use Prim.Native.Nat.{ℕ}
 use mathlib.Core.Bool.{Bool, true, false, cond, not, _&&_, _||_}
 use mathlib.Core.Option.{Option, none, some}

@@ -1,4 +1,5 @@
--- The turn of a stack (document 01, "Cycle", steps 1 to 4; dMARS 8.4, SelectIntention; 8.1, selectbranch; 5, Plan.maint).
+-- The turn of a stack (document 01, "Cycle", steps 1 to 4; dMARS 6.1, Succeeded and Failed; 8.4, SelectIntention; 8.1, selectbranch;
+-- 5, Plan.maint).
 -- Departs from dMARS: stacks run in turn, branches in order; maintenance is tested first at each turn.
 use Prim.Native.Nat.{ℕ, _+_}
 use mathlib.Core.Bool.{Bool, cond, not}

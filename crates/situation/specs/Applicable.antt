@@ -1,5 +1,6 @@
 -- Applicable plans and the choice of one (document 01, "Cycle"; dMARS 8.2, relplans and applplans; 8.1, planselect).
--- Departs from dMARS: library order and the first solution choose; failed plans are left out by number.
+-- Departs from dMARS: library order and the first solution choose; plans that failed for an event are left out by number, where 8.3
+-- (NewPlanInst) leaves out failed plan instances, for goal events alone.
 use Prim.Native.Nat.{ℕ, suc}
 use mathlib.Core.Bool.{Bool, cond, not, _&&_}
 use mathlib.Core.Option.{Option, none, some}
