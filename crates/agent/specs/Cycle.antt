@@ -1,4 +1,5 @@
 -- What the code of a cycle asks (document 01, "The three calls", Cycle).
+-- Private vocabulary: no public contract rests on this file.
 use Prim.Native.Nat.{ℕ}
 use mathlib.Core.Path.{_≡_}
 use mathlib.Core.Bool.{true}

@@ -1,4 +1,5 @@
 -- What a look at the stacks and the number of queued events tells of a line (document 01, "The three calls").
+-- Private vocabulary: no public contract rests on this file.
 use Prim.Native.Nat.{ℕ, min, _<_, _≤_}
 use mathlib.Core.Path.{_≡_}
 use mathlib.Core.Bool.{Bool, true, false, _&&_, _||_}

@@ -1,5 +1,6 @@
 -- Taking up a pending event (document 01, "Cycle", first paragraph): what the code needs, the steps that it makes,
 -- and what they give on every state that has the parts that they were decided from.
+-- Private vocabulary: no public contract rests on this file.
 use Prim.Native.Nat.{ℕ, _+_, _<_, _≤_, min}
 use mathlib.Core.Path.{_≡_}
 use mathlib.Core.Bool.{true, false}

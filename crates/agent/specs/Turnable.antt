@@ -1,4 +1,5 @@
 -- What a turn's workers need, and what their steps give on every state that has the parts that they were decided from.
+-- Private vocabulary: no public contract rests on this file.
 use Prim.Native.Nat.{ℕ, _<_, _≤_}
 use mathlib.Core.Path.{_≡_}
 use mathlib.Core.Bool.{true}

@@ -1,4 +1,5 @@
 -- A move on an array as one gap that is closed and one place that is written, of n places in use.
+-- Private vocabulary: no public contract rests on this file.
 use Prim.Native.Nat.{ℕ, _-_, min}
 use mathlib.Core.Bool.{cond}
 use lib.Dec.{ltb}

@@ -1,4 +1,5 @@
 -- Reading a line by places in it (document 01, "Journal"): what the parts of the reader promise.
+-- Private vocabulary but for part: no public contract rests on the others.
 use Prim.Native.Nat.{ℕ, _+_, _-_, _≤_, _<_}
 use mathlib.Core.Path.{_≡_}
 use mathlib.Core.Bool.{false, cond}

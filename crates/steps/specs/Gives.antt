@@ -1,4 +1,5 @@
 -- What a worker gives for a reply of the model.
+-- Private vocabulary: no public contract rests on this file.
 use mathlib.Core.Path.{_≡_}
 use mathlib.Core.Bool.{true}
 use Rattle.model.specs.State.{Reply}
