@@ -1,4 +1,4 @@
-//! The journal program: the file "library" and standard input in, a line out for each line.
+//! Not proved: the journal program. The file "library" and standard input in, a line out for each line.
 
 use reference::agent::Agent;
 use reference::journal::{Journal, write_line};
