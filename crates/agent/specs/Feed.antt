@@ -1,6 +1,6 @@
 -- A chunk of the journal: its lines, run one after the other (document 01, "Journal").
--- The public contract is Feeds. Trusted, Responds, Runs, Progress, RunsChunk and RunsOn are private vocabulary: no public contract
--- rests on them.
+-- The public contract is Feeds. Private vocabulary, on which no public contract rests: refusalFor, Trusted, Responds, Runs, inState,
+-- Progress, RunsChunk and RunsOn.
 use Prim.Native.Nat.{ℕ, _+_, _≤_, _<_}
 use mathlib.Core.Path.{_≡_}
 use mathlib.Core.Bool.{Bool, true}
