@@ -64,7 +64,7 @@ module _ (bytes : List ℕ) (accepted : refusalOf bytes ≡ 0) where
         formed = subst⁻¹ (λ (r : Reply). isWellFormed (libraryOf bytes) (r .state) ≡ true) same (promises (libraryOf bytes) (acceptable bytes accepted) (viewState (a .state)) (h .formed) (link .call) .formed);
       }
 
-  chain-is : {a b : Agent} {links : List Link} → Held bytes a → Chain a links b → IsChain (libraryOf bytes) (viewState (a .state)) (entriesOf links)
+  pub chain-is : {a b : Agent} {links : List Link} → Held bytes a → Chain a links b → IsChain (libraryOf bytes) (viewState (a .state)) (entriesOf links)
   chain-is h start = tt
   chain-is {a = a} h (then link c rest) = (ap (entry (link .call)) (held-call a h link c), chain-is (held-next a h link c) rest)
 

@@ -16,7 +16,7 @@ pub mod Invariant
 pub mod InvariantSteps
 pub mod InvariantKept
 pub mod WellFormedTest
-pub mod RefusalLaws
+pub mod UnchangedLaws
 pub mod CallLaws
 pub mod Demand3Proof
 pub mod AcceptedLibrary

@@ -1,6 +1,6 @@
 -- Origins that are the same are equal, and every origin is the same as itself.
 use Prim.Native.Nat.{ℕ, _+_, _-_}
-use mathlib.Core.Path.{_≡_, refl, sym, ap}
+use mathlib.Core.Path.{_≡_, refl, sym, ap, _∙_}
 use mathlib.Core.Bool.{true, false, _&&_}
 use native.Mathlib.Omega.{arith}
 use lib.Dec.{eqb}
@@ -52,3 +52,9 @@ goal-external (Goal i s b) (Goal j t c) p q = both-ways refl q
 -- the goal of an instance that has just tried its next branch
 pub goal-tried : (x : Instance) (status : Status) → goalOf (tryNext status x) ≡ Goal (x .id) (x .state) (x .tried)
 goal-tried x status = let e : x .tried + 1 - 1 ≡ x .tried = omega arith in ap (Goal (x .id) (x .state)) e
+
+-- and the test is the same turned round
+pub same-turned : (o u : Origin) → sameOrigin o u ≡ sameOrigin u o
+same-turned o u = by-cases (sameOrigin o u)
+    (λ e. e ∙ sym (same-origin u o (sym (origin-equal o u e))))
+    (λ e. e ∙ sym (origin-turned o u e))

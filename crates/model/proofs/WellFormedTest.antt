@@ -61,7 +61,7 @@ module _ (q : List Event) (J : List Job) where
   asleep o = count (isPosted o) J
 
   -- a goal that is queued has a poster
-  goals-posted : ((o : Origin) → queued o ≡ asleep o) → (part : List Event)
+  pub goals-posted : ((o : Origin) → queued o ≡ asleep o) → (part : List Event)
       → ((o : Origin) → count (λ e. isGoal (e .origin) && isOf o e) part ≤ queued o) → Every (hasPoster J) part
   unfolding hasPoster
   goals-posted h [] less = refl

@@ -1,4 +1,4 @@
--- The calls on any state, the loaded state, and refusals
+-- The calls on any state, the loaded state, refusals, and the idle answer
 -- (document 01, "The three calls", "Who may cause which refusal"; dMARS 8.1, InitdMARSAgentState).
 use Prim.Native.Nat.{ℕ}
 use mathlib.Core.Bool.{Bool, true, false}
@@ -66,6 +66,22 @@ isRefusal (Posted i s b) = false
 isRefusal (Succeeded i) = false
 isRefusal (Failed i) = false
 isRefusal (Refused number) = true
+
+-- the answer is idle
+abbrev pub isIdle : Answer → Bool
+isIdle (Taken n) = false
+isIdle Idle = true
+isIdle (Dropped n failures) = false
+isIdle (Unmet i s b failures) = false
+isIdle (MadeExternal i plan n) = false
+isIdle (MadeGoal i plan poster) = false
+isIdle (Stepped i s b next) = false
+isIdle (Missed i s b) = false
+isIdle (Done i s b literal) = false
+isIdle (Posted i s b) = false
+isIdle (Succeeded i) = false
+isIdle (Failed i) = false
+isIdle (Refused number) = false
 
 -- what a call on a well-formed state can be refused with, and 0
 unfoldable pub isRefusalFor : Call → ℕ → Bool

@@ -2,7 +2,7 @@
 -- (document 00, demand 1; document 01, "The three calls" and "Who may cause which refusal").
 use Prim.Native.Nat.{_≤_}
 use mathlib.Core.Path.{_≡_}
-use mathlib.Core.Bool.{Bool, true, not}
+use mathlib.Core.Bool.{Bool, true, not, _||_}
 use lib.Dec.{eqb}
 use lib.ListN.{length}
 use Rattle.belief.specs.Beliefs.{replay}
@@ -10,7 +10,7 @@ use Rattle.library.specs.Plan.{Library}
 use Rattle.model.specs.State.{mostChanges, AgentState, Call, Reply}
 use Rattle.model.specs.Changes.{areEffective}
 use Rattle.model.specs.WellFormed.{isWellFormed}
-use Rattle.model.specs.Calls.{refusalIn, isRefusal, isRefusalFor}
+use Rattle.model.specs.Calls.{refusalIn, isRefusal, isIdle, isRefusalFor}
 use Rattle.model.specs.Run.{Entry}
 
 pub record Promises (library : Library) (s : AgentState) (c : Call) (r : Reply) : Type 0 where
@@ -23,9 +23,9 @@ pub record Promises (library : Library) (s : AgentState) (c : Call) (r : Reply) 
   -- it is refused, if at all, with a number of its own
   pub refusal : isRefusalFor c (refusalIn (r .result .answer)) ≡ true
 
--- a refusal leaves the state as it was
+-- a refused call and an idle cycle leave the state as it was
 abbrev pub Unchanged : AgentState → Reply → Type 0
-Unchanged s r = isRefusal (r .result .answer) ≡ true → r .state ≡ s
+Unchanged s r = (isRefusal (r .result .answer) || isIdle (r .result .answer)) ≡ true → r .state ≡ s
 
 -- the call was not refused with 10
 abbrev pub isNotTen : Entry → Bool

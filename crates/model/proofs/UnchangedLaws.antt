@@ -1,4 +1,4 @@
--- A refusal leaves the state as it was, for every state: no other answer is a refusal.
+-- A refused call and an idle cycle leave the state as it was, for every state: no other answer is a refusal or idle.
 use Prim.Native.Nat.{ℕ}
 use mathlib.Core.Path.{refl}
 use mathlib.Core.Option.{Option, none, some}
@@ -75,7 +75,7 @@ module _ (library : Library) (s : AgentState) where
   unfolding cycleBy turn
   cycle-unchanged (some event) k = take-up-unchanged event (choiceFor library s (event .it))
   cycle-unchanged none (some k) = turn-unchanged k (nextMove library (s .beliefs) (k .it .top))
-  cycle-unchanged none none = λ e. both-ways e refl
+  cycle-unchanged none none = λ e. refl
 
   -- ---- Outcome
 
@@ -93,9 +93,9 @@ module _ (library : Library) (s : AgentState) where
   act-unchanged cycle = cycle-unchanged (nextEvent s) (nextStack s)
   act-unchanged (outcome id worked) = outcome-unchanged worked (first (isAwaiting id) (s .stacks))
 
-  pub refused-unchanged : (c : Call) → Unchanged s (call library s c)
+  pub call-unchanged : (c : Call) → Unchanged s (call library s c)
   unfolding call callBy
-  refused-unchanged c = go (isWellFormed library s)
+  call-unchanged c = go (isWellFormed library s)
     where
       go : (b : Bool) → Unchanged s (callBy b library s c)
       go true = act-unchanged c

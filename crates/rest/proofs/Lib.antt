@@ -1,0 +1,9 @@
+pub mod Costs
+pub mod Potential
+pub mod Bounds
+pub mod Steps
+pub mod RunLaws
+pub mod RestLaws
+pub mod LibraryLaws
+pub mod ChainLaws
+pub mod Cases
