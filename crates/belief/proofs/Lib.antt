@@ -1,2 +1,3 @@
 pub mod TableSteps
 pub mod BeliefLaws
+pub mod RemovalLaws

@@ -52,14 +52,15 @@ module _ (b : Beliefs) (l : Literal) (len : length (b .items) ≡ 64) where
     unfolding remove
     remove-absent h = rw (← held-by-place, le-ltb place n h)
 
-    pub remove-held : place < n → (items : List Literal) → items ≡ closeGap place (n - 1) (b .items)
-        → _≡_ {A = Applied} (record { table = record { items = items; count = n - 1 }; changed = true; fitted = true }) (remove b l)
+    pub remove-held : place < n → (closed : Beliefs) → closed ≡ record { items = closeGap place (n - 1) (b .items); count = n - 1 }
+        → _≡_ {A = Applied} (record { table = closed; changed = true; fitted = true }) (remove b l)
     unfolding remove
-    remove-held h items q =
-        let gap : items ≡ closeGap (position (same l) (view b)) (size b - 1) (b .items)
-        = q ∙ ap (λ (m : ℕ). closeGap m (n - 1) (b .items)) place-is ∙ ap (λ (m : ℕ). closeGap (position (same l) (view b)) (m - 1) (b .items)) e in
+    remove-held h closed q =
+        let gap : closeGap place (n - 1) (b .items) ≡ closeGap (position (same l) (view b)) (size b - 1) (b .items)
+        = ap (λ (m : ℕ). closeGap m (n - 1) (b .items)) place-is ∙ ap (λ (m : ℕ). closeGap (position (same l) (view b)) (m - 1) (b .items)) e in
         let count : n - 1 ≡ size b - 1 = ap (λ (m : ℕ). m - 1) e in
-        rw (← held-by-place, lt-ltb place n h) (λ i. record { table = record { items = gap i; count = count i }; changed = true; fitted = true })
+        rw (← held-by-place, lt-ltb place n h)
+        (ap (λ (t : Beliefs). record { table = t; changed = true; fitted = true }) q ∙ (λ i. record { table = record { items = gap i; count = count i }; changed = true; fitted = true }))
 
 module _ (b : Beliefs) (l : Literal) where
   pub add-held : holds (view b) l ≡ true → unchanged b ≡ add b l

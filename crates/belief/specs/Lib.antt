@@ -1,2 +1,3 @@
 pub mod Beliefs
 pub mod Table
+pub mod Removal

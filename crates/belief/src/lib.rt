@@ -42,35 +42,38 @@ pub fn size_of(b: Beliefs) -> usize
     MOST_BELIEFS
 }
 
-// The first place of the literal among the first n items from `from` on; n where there is none.
-fn place_from(items: [Literal; MOST_BELIEFS], n: usize, from: usize, l: Literal) -> usize
-    requires { ⌜ (from ≤ n) × (n ≤ 64) ⌝ }
-    ensures { λ r. ⌜ r ≡ from + position (same l) (drop from (take n items)) ⌝ }
-{
-    let mut i = from;
-    while i < n {
-        let item = items[i];
-        if literal::is_same(l, item) {
-            return i;
+impl Beliefs {
+    // The first place of the literal among the first n items from `from` on; n where there is none.
+    fn place_from(self, n: usize, from: usize, l: Literal) -> usize
+        requires { ⌜ (from ≤ n) × (n ≤ 64) ⌝ }
+        ensures { λ r. ⌜ r ≡ from + position (same l) (drop from (take n (self .items))) ⌝ }
+    {
+        let mut i = from;
+        while i < n {
+            let item = self.items[i];
+            if literal::is_same(l, item) {
+                return i;
+            }
+            i += 1;
         }
-        i += 1;
+        i
     }
-    i
-}
 
-// The items from the gap on move down by one, up to the last of n.
-fn without_gap(items: [Literal; MOST_BELIEFS], gap: usize, n: usize) -> [Literal; MOST_BELIEFS]
-    requires { ⌜ (gap < n) × (n ≤ 64) ⌝ }
-    ensures { λ r. ⌜ r ≡ closeGap gap (n - 1) items ⌝ }
-{
-    let mut moved = items;
-    let mut i = gap;
-    while i < n - 1 {
-        let next = moved[i + 1];
-        moved[i] = next;
-        i += 1;
+    // The gap is closed within the table: the items behind it, up to the last of n, move down by one.
+    fn closed(mut self, gap: usize, n: usize) -> Beliefs
+        requires { ⌜ (gap < n) × (n ≤ 64) ⌝ }
+        ensures { λ r. ⌜ r ≡ record { items = closeGap gap (n - 1) (self .items); count = n - 1 } ⌝ }
+    {
+        let last = n - 1;
+        let mut i = gap;
+        while i < last {
+            let next = self.items[i + 1];
+            self.items[i] = next;
+            i += 1;
+        }
+        self.count = last;
+        self
     }
-    moved
 }
 
 // Whether the literal is a belief.
@@ -78,8 +81,7 @@ pub fn is_held(b: Beliefs, l: Literal) -> bool
     ensures { λ r. ⌜ r ≡ holds (view b) l ⌝ }
 {
     let n = size_of(b);
-    let items = b.items;
-    let place = place_from(items, n, 0, l);
+    let place = b.place_from(n, 0, l);
     place < n
 }
 
@@ -117,8 +119,7 @@ pub fn removed(b: Beliefs, l: Literal) -> Applied
     ensures { λ r. ⌜ r ≡ remove b l ⌝ }
 {
     let n = size_of(b);
-    let items = b.items;
-    let place = place_from(items, n, 0, l);
+    let place = b.place_from(n, 0, l);
     if n <= place {
         return Applied {
             table: b,
@@ -126,30 +127,27 @@ pub fn removed(b: Beliefs, l: Literal) -> Applied
             fitted: true,
         };
     }
-    let closed = without_gap(items, place, n);
+    let closed = b.closed(place, n);
     Applied {
-        table: Beliefs {
-            items: closed,
-            count: n - 1,
-        },
+        table: closed,
         changed: true,
         fitted: true,
     }
 }
 
 // Whether the first n items are ground and all different.
-fn are_beliefs(items: [Literal; MOST_BELIEFS], n: usize) -> bool
+fn are_beliefs(b: Beliefs, n: usize) -> bool
     requires { ⌜ n ≤ 64 ⌝ }
-    ensures { λ r. ⌜ r ≡ (all isGround (take n items) && distinct same (take n items)) ⌝ }
+    ensures { λ r. ⌜ r ≡ (all isGround (take n (b .items)) && distinct same (take n (b .items))) ⌝ }
 {
     let mut i: usize = 0;
     while i < n {
-        let item = items[i];
+        let item = b.items[i];
         i += 1;
         if !literal::is_ground(item) {
             return false;
         }
-        if place_from(items, n, i, item) < n {
+        if b.place_from(n, i, item) < n {
             return false;
         }
     }
@@ -164,6 +162,5 @@ pub fn is_table(b: Beliefs) -> bool
     if MOST_BELIEFS < n {
         return false;
     }
-    let items = b.items;
-    are_beliefs(items, n)
+    are_beliefs(b, n)
 }

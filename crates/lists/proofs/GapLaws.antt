@@ -5,8 +5,8 @@ use native.Mathlib.Omega.{arith}
 use native.Mathlib.Nat.{sub-self, sub-zero, suc-sub-suc, zero-sub}
 use mathlib.Core.Path.{_≡_, ap, sym, _∙_}
 use mathlib.Core.List.{List, [], _∷_, _++_, append-assoc, append-nil}
-use lib.ListN.{length, take, drop, set, getD, length-append, length-take, length-drop, take-append-drop, drop-of-length-le}
-use lib.Seq.{take-suc, drop-cons, set-at, take-at, getD-drop, getD-append-add, take-take, drop-nil, take-nil, take-all, append-snoc}
+use lib.ListN.{length, take, drop, set, getD, List·getD-append, length-append, length-take, length-drop, take-append-drop, drop-of-length-le}
+use lib.Seq.{take-suc, drop-cons, set-at, take-at, getD-take, getD-drop, getD-append-add, take-take, drop-nil, take-nil, take-all, append-snoc}
 use Rattle.lists.specs.Gap.{removeAt, closeGap}
 
 pub drop-take : {A : Type 0} (m n : ℕ) (xs : List A) → drop m (take n xs) ≡ take (n - m) (drop m xs)
@@ -82,3 +82,38 @@ pub removeAt-past : {A : Type 0} (i : ℕ) (xs : List A) → length xs ≤ i →
 removeAt-past i xs h =
     let rest : drop (suc i) xs ≡ [] = drop-of-length-le xs {i = suc i} (omega arith) in
     rw (take-all i xs h, rest) (append-nil xs)
+
+-- ---- Every place, after the gap is closed up to n
+
+module _ {A : Type 0} (xs : List A) (i n : ℕ) (d : A) (low : i ≤ n) (high : n < length xs) where
+  front : length (take i xs) ≡ i
+  front = length-take i xs ∙ omega arith
+
+  pub gap-length : length (closeGap i n xs) ≡ length xs
+  gap-length = simp (length-append, length-take, length-drop) (omega arith)
+
+  -- before the gap as it was
+  pub gap-before : (j : ℕ) → j < i → getD (closeGap i n xs) j d ≡ getD xs j d
+  unfolding closed
+  gap-before j h =
+      List·getD-append (closed i n xs) (drop n xs) d j (omega (arith, length-closed xs i n low high))
+      ∙ List·getD-append (take i xs) (take (n - i) (drop (suc i) xs)) d j (omega (arith, front)) ∙ getD-take i xs j d h
+
+  -- from the gap up to n the next one's element
+  pub gap-within : (j : ℕ) → i ≤ j → j < n → getD (closeGap i n xs) j d ≡ getD xs (suc j) d
+  unfolding closed
+  gap-within j g h =
+      let k : length (take i xs) + (j - i) ≡ j = omega (arith, front) in
+      let m : suc i + (j - i) ≡ suc j = omega arith in
+      List·getD-append (closed i n xs) (drop n xs) d j (omega (arith, length-closed xs i n low high))
+      ∙ ap (λ (p : ℕ). getD (take i xs ++ take (n - i) (drop (suc i) xs)) p d) (sym k)
+      ∙ getD-append-add (take i xs) (take (n - i) (drop (suc i) xs)) (j - i) d
+      ∙ getD-take (n - i) (drop (suc i) xs) (j - i) d (omega arith) ∙ getD-drop (suc i) xs (j - i) d ∙ ap (λ (p : ℕ). getD xs p d) m
+
+  -- from n on as it was
+  pub gap-behind : (j : ℕ) → n ≤ j → getD (closeGap i n xs) j d ≡ getD xs j d
+  unfolding closed
+  gap-behind j h =
+      let k : length (closed i n xs) + (j - n) ≡ j = omega (arith, length-closed xs i n low high) in
+      let m : n + (j - n) ≡ j = omega arith in
+      ap (λ (p : ℕ). getD (closed i n xs ++ drop n xs) p d) (sym k) ∙ getD-append-add (closed i n xs) (drop n xs) (j - n) d ∙ getD-drop n xs (j - n) d ∙ ap (λ (p : ℕ). getD xs p d) m

@@ -12,10 +12,10 @@ use Rattle.belief.proofs.are_beliefs.Statement.{statement}
 use Rattle.belief.proofs.are_beliefs.Tie as tie
 
 abbrev Inv-loop : tie.InvT-loop
-Inv-loop n items i₀ i = (i ≤ n) × (areSound (drop i (take n items)) ≡ areSound (take n items))
+Inv-loop n b i₀ i = (i ≤ n) × (areSound (drop i (take n (b .items))) ≡ areSound (take n (b .items)))
 
 abbrev μ-loop : tie.MeasureT-loop
-μ-loop n items i₀ i = n - i
+μ-loop n b i₀ i = n - i
 
 loop-holds : tie.Need-loop-holds Inv-loop μ-loop
 loop-holds c = (omega arith, refl)
@@ -23,8 +23,8 @@ loop-holds c = (omega arith, refl)
 mul-item : tie.Need-mul-item Inv-loop μ-loop
 mul-item c = search needs
 
-array-copy-out-item : tie.Need-array-copy-out-item Inv-loop μ-loop
-array-copy-out-item c = search needs
+element-copy-out-item : tie.Need-element-copy-out-item Inv-loop μ-loop
+element-copy-out-item c = search needs
 
 add-i : tie.Need-add-i Inv-loop μ-loop
 add-i c = search needs
@@ -36,8 +36,8 @@ returns : tie.Need-returns Inv-loop μ-loop
 returns c =
     let a = (c .before .before .before .before .before .args) in
     let s = (c .before .before .before .before .loop) in
-    let len : length (a .t1) ≡ 64 = search (needs, length-mapped) in
-    sound-variable (a .t1) (a .n) (s .i) _ (omega arith) (omega arith) (s .inv .1) (sym ((c .before .is-ground) .ensures) ∙ not-true _ ((c .if1) .taken))
+    let len : length (a .t1 .items) ≡ 64 = search (needs, length-mapped) in
+    sound-variable (a .t1 .items) (a .n) (s .i) _ (omega arith) (omega arith) (s .inv .1) (sym ((c .before .is-ground) .ensures) ∙ not-true _ ((c .if1) .taken))
 
 place-from-requires : tie.Need-place-from-requires Inv-loop μ-loop
 place-from-requires c κs = search needs
@@ -46,8 +46,8 @@ returns-2 : tie.Need-returns-2 Inv-loop μ-loop
 returns-2 c =
     let a = (c .before .before .before .before .before .before .before .args) in
     let s = (c .before .before .before .before .before .before .loop) in
-    let len : length (a .t1) ≡ 64 = search (needs, length-mapped) in
-    sound-repeated (a .t1) (a .n) (s .i) _ (omega arith) (omega arith) (s .inv .1) (sym ((c .before .before .before .is-ground) .ensures) ∙ not-false _ ((c .before .before .if1) .left))
+    let len : length (a .t1 .items) ≡ 64 = search (needs, length-mapped) in
+    sound-repeated (a .t1 .items) (a .n) (s .i) _ (omega arith) (omega arith) (s .inv .1) (sym ((c .before .before .before .is-ground) .ensures) ∙ not-false _ ((c .before .before .if1) .left))
     ((c .before .place-from) .result) ((c .before .place-from) .ensures) ((c .if2) .taken)
 
 loop-less : tie.Need-loop-less Inv-loop μ-loop
@@ -57,9 +57,9 @@ loop-again : tie.Need-loop-again Inv-loop μ-loop
 loop-again c =
     let a = (c .before .before .before .before .before .before .before .args) in
     let s = (c .before .before .before .before .before .before .loop) in
-    let len : length (a .t1) ≡ 64 = search (needs, length-mapped) in (
+    let len : length (a .t1 .items) ≡ 64 = search (needs, length-mapped) in (
       omega arith,
-      sound-next (a .t1) (a .n) (s .i) _ (omega arith) (omega arith) (s .inv .1) (sym ((c .before .before .before .is-ground) .ensures) ∙ not-false _ ((c .before .before .if1) .left))
+      sound-next (a .t1 .items) (a .n) (s .i) _ (omega arith) (omega arith) (s .inv .1) (sym ((c .before .before .before .is-ground) .ensures) ∙ not-false _ ((c .before .before .if1) .left))
           ((c .before .place-from) .result) ((c .before .place-from) .ensures) ((c .if2) .left),
     )
 
@@ -67,7 +67,7 @@ returns-3 : tie.Need-returns-3 Inv-loop μ-loop
 returns-3 c =
     let a = (c .before .before .args) in
     let s = (c .before .loop) in
-    sound-end (take (a .n) (a .t1)) (s .i) (simp length-take (omega arith)) (s .inv .1)
+    sound-end (take (a .n) (a .t1 .items)) (s .i) (simp length-take (omega arith)) (s .inv .1)
 
 pub are-beliefs-spec : {M : Type 1} → statement M
 are-beliefs-spec =
@@ -77,7 +77,7 @@ are-beliefs-spec =
     μ-loop
     loop-holds
     mul-item
-    array-copy-out-item
+    element-copy-out-item
     add-i
     is-ground-requires
     returns

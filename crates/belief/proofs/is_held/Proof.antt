@@ -15,9 +15,9 @@ place-from-requires c κs = search needs
 
 returns : tie.Need-returns
 returns c =
-    let a = (c .before .before .before .args) in
+    let a = (c .before .before .args) in
     let len : length (a .b .items) ≡ 64 = search (needs, length-mapped) in
-    held-by-place (a .b) (a .l) len ((c .before .before .size-of) .result) ((c .place-from) .result) ((c .before .before .size-of) .ensures) ((c .place-from) .ensures)
+    held-by-place (a .b) (a .l) len ((c .before .size-of) .result) ((c .place-from) .result) ((c .before .size-of) .ensures) ((c .place-from) .ensures)
 
 pub is-held-spec : {M : Type 1} → statement M
 is-held-spec = tie.close (tie.spec size-of-requires place-from-requires returns)

@@ -12,7 +12,7 @@ are-beliefs-requires : tie.Need-are-beliefs-requires
 are-beliefs-requires c κs = search needs
 
 returns-2 : tie.Need-returns-2
-returns-2 c = (c .are-beliefs) .ensures ∙ table-sound ((c .before .before .before .args) .b) ((c .before .before .if1) .left)
+returns-2 c = (c .are-beliefs) .ensures ∙ table-sound ((c .before .before .args) .b) ((c .before .if1) .left)
 
 pub is-table-spec : {M : Type 1} → statement M
 is-table-spec = tie.close (tie.spec returns are-beliefs-requires returns-2)

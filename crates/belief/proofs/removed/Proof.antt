@@ -16,24 +16,21 @@ place-from-requires c κs = search needs
 
 returns : tie.Need-returns
 returns c =
-    let a = (c .before .before .before .before .args) in
+    let a = (c .before .before .before .args) in
     let len : length (a .b .items) ≡ 64 = search (needs, length-mapped) in
-    remove-absent (a .b) (a .l) len ((c .before .before .before .size-of) .result) ((c .before .place-from) .result) ((c .before .before .before .size-of) .ensures) ((c .before .place-from) .ensures) ((c .if1) .taken)
+    remove-absent (a .b) (a .l) len ((c .before .before .size-of) .result) ((c .before .place-from) .result) ((c .before .before .size-of) .ensures) ((c .before .place-from) .ensures) ((c .if1) .taken)
 
-without-gap-requires : tie.Need-without-gap-requires
-without-gap-requires c κs = search needs
-
-sub-t8 : tie.Need-sub-t8
-sub-t8 c = omega arith
+closed-requires : tie.Need-closed-requires
+closed-requires c κs = search needs
 
 returns-2 : tie.Need-returns-2
 returns-2 c =
-    let a = (c .before .before .before .before .before .args) in
+    let a = (c .before .before .before .before .args) in
     let len : length (a .b .items) ≡ 64 = search (needs, length-mapped) in
-    remove-held (a .b) (a .l) len ((c .before .before .before .before .size-of) .result) ((c .before .before .place-from) .result) ((c .before .before .before .before .size-of) .ensures) ((c .before .before .place-from) .ensures) ((c .before .if1) .left)
-    ((c .without-gap) .result) ((c .without-gap) .ensures)
+    remove-held (a .b) (a .l) len ((c .before .before .before .size-of) .result) ((c .before .before .place-from) .result) ((c .before .before .before .size-of) .ensures) ((c .before .before .place-from) .ensures) ((c .before .if1) .left)
+    ((c .closed) .result) ((c .closed) .ensures)
 
 pub removed-spec : {M : Type 1} → statement M
 removed-spec =
     tie.close
-    (tie.spec size-of-requires place-from-requires returns without-gap-requires sub-t8 returns-2)
+    (tie.spec size-of-requires place-from-requires returns closed-requires returns-2)
