@@ -18,7 +18,7 @@ const LAST_NUMBER: u16 = u16::MAX;
 
 /// What became of a branch.
 enum Attempt {
-    Stepped(Option<Change>),
+    Stepped(Vec<Change>),
     Missed,
     Done(Fact),
     Posted(EventKind, Fact),
@@ -82,14 +82,14 @@ impl Agent {
         if external.count() >= MOST_EXTERNAL {
             return Err(Refusal::QueueFull);
         }
-        let change = match kind {
+        let changes = match kind {
             EventKind::Added => self.beliefs.add(fact).map_err(|_| Refusal::BeliefsFull)?,
-            EventKind::Removed => self.beliefs.remove(fact),
-            _ => None,
+            EventKind::Removed => self.beliefs.remove(fact).into_iter().collect(),
+            _ => vec![],
         };
         self.taken = number;
         self.post(Origin::External(number), kind, fact);
-        Ok(Answer { deed: Deed::Taken(number), changes: change.into_iter().collect() })
+        Ok(Answer { deed: Deed::Taken(number), changes })
     }
 
     /// Takes up the first pending event or, without one, runs the first stack that can run.
@@ -208,9 +208,9 @@ impl Agent {
         top.tried += 1;
         let place = top.last_tried();
         match attempt(branch, &mut self.beliefs, &mut top.bindings, high) {
-            Attempt::Stepped(change) => {
+            Attempt::Stepped(changes) => {
                 top.step_to(branch.next);
-                Answer { deed: Deed::Stepped(place, branch.next), changes: change.into_iter().collect() }
+                Answer { deed: Deed::Stepped(place, branch.next), changes }
             }
             Attempt::Missed => Deed::Missed(place).into(),
             Attempt::Done(fact) => {
@@ -259,16 +259,16 @@ fn attempt(branch: &Branch, beliefs: &mut Beliefs, bindings: &mut Bindings, high
         && let Some(bound) = beliefs.first_match(&branch.literal, bindings)
     {
         *bindings = bound;
-        return Attempt::Stepped(None);
+        return Attempt::Stepped(vec![]);
     }
     let Some(fact) = branch.literal.ground(bindings) else {
         return Attempt::Missed;
     };
     match branch.kind {
         BranchKind::Add => beliefs.add(fact).map_or(Attempt::Missed, Attempt::Stepped),
-        BranchKind::Remove => Attempt::Stepped(beliefs.remove(fact)),
+        BranchKind::Remove => Attempt::Stepped(beliefs.remove(fact).into_iter().collect()),
         BranchKind::External => Attempt::Done(fact),
-        BranchKind::Achieve if beliefs.holds(&fact) => Attempt::Stepped(None),
+        BranchKind::Achieve if beliefs.holds(&fact) => Attempt::Stepped(vec![]),
         BranchKind::Query if beliefs.holds(&fact.opposite()) => Attempt::Missed,
         _ if high => Attempt::Missed,
         BranchKind::Achieve => Attempt::Posted(EventKind::Achieve, fact),
@@ -279,8 +279,8 @@ fn attempt(branch: &Branch, beliefs: &mut Beliefs, bindings: &mut Bindings, high
 /// Carries out a list of actions, passing over those that cannot be; the changes that took effect.
 fn perform(actions: &[Action], beliefs: &mut Beliefs, bindings: &Bindings) -> Vec<Change> {
     let effect = |action: &Action| match action {
-        Action::Add(literal) => beliefs.add(literal.ground(bindings)?).ok()?,
-        Action::Remove(literal) => beliefs.remove(literal.ground(bindings)?),
+        Action::Add(literal) => beliefs.add(literal.ground(bindings)?).ok(),
+        Action::Remove(literal) => beliefs.remove(literal.ground(bindings)?).map(|change| vec![change]),
     };
-    actions.iter().filter_map(effect).collect()
+    actions.iter().filter_map(effect).flatten().collect()
 }

@@ -14,16 +14,16 @@ pub enum Change {
     Removed(Fact),
 }
 
-/// An add found the table full.
+/// An add found no room: the table is full, and there was no opposite to take out.
 #[derive(Clone, Copy, Debug, PartialEq, Eq)]
 pub struct Full;
 
-/// Facts that are held, all different, oldest first.
+/// Facts that are held, all different and none the opposite of another, oldest first.
 #[derive(Clone, Debug, Default)]
 pub struct Beliefs(Vec<Fact>);
 
 impl Beliefs {
-    /// A table of facts that the caller knows to be different and few enough.
+    /// A table of facts that the caller knows to be different, without opposites and few enough.
     pub(crate) fn of(facts: Vec<Fact>) -> Self {
         Beliefs(facts)
     }
@@ -38,16 +38,17 @@ impl Beliefs {
         self.0.contains(fact)
     }
 
-    /// Adds a fact last, unless it is held already.
-    pub fn add(&mut self, fact: Fact) -> Result<Option<Change>, Full> {
+    /// Adds a fact last, unless it is held already. Its opposite is taken out first, as a change of its own (document 02, 1).
+    pub fn add(&mut self, fact: Fact) -> Result<Vec<Change>, Full> {
         if self.holds(&fact) {
-            return Ok(None);
+            return Ok(vec![]);
         }
+        let cleared = self.remove(fact.opposite());
         if self.0.len() >= MOST_BELIEFS {
             return Err(Full);
         }
         self.0.push(fact);
-        Ok(Some(Change::Added(fact)))
+        Ok(cleared.into_iter().chain([Change::Added(fact)]).collect())
     }
 
     /// Removes a fact, if it is held; the others keep their order.
@@ -124,18 +125,30 @@ mod tests {
     #[test]
     fn a_removed_fact_that_is_added_again_goes_last() {
         let mut beliefs = Beliefs::of(vec![fact(1, 5), fact(1, 6)]);
-        assert_eq!(beliefs.add(fact(1, 5)), Ok(None));
+        assert_eq!(beliefs.add(fact(1, 5)), Ok(vec![]));
         assert_eq!(beliefs.facts(), [fact(1, 5), fact(1, 6)]);
         assert_eq!(beliefs.remove(fact(1, 5)), Some(Change::Removed(fact(1, 5))));
         assert_eq!(beliefs.remove(fact(1, 5)), None);
-        assert_eq!(beliefs.add(fact(1, 5)), Ok(Some(Change::Added(fact(1, 5)))));
+        assert_eq!(beliefs.add(fact(1, 5)), Ok(vec![Change::Added(fact(1, 5))]));
         assert_eq!(beliefs.facts(), [fact(1, 6), fact(1, 5)]);
+    }
+
+    #[test]
+    fn an_add_takes_out_the_opposite_and_then_always_fits() {
+        let mut facts: Vec<Fact> = (0..64).map(|term| fact(1, term)).collect();
+        let mut beliefs = Beliefs::of(facts.clone());
+        let turned = fact(3, 0).opposite();
+        assert_eq!(beliefs.add(turned), Err(Full));
+        let turned = facts.remove(7).opposite();
+        assert_eq!(beliefs.add(turned), Ok(vec![Change::Removed(fact(1, 7)), Change::Added(turned)]));
+        facts.push(turned);
+        assert_eq!(beliefs.facts(), facts);
     }
 
     #[test]
     fn the_sixty_fifth_fact_finds_no_room() {
         let mut beliefs = Beliefs::of((0..64).map(|term| fact(1, term)).collect());
         assert_eq!(beliefs.add(fact(1, 64)), Err(Full));
-        assert_eq!(beliefs.add(fact(1, 63)), Ok(None));
+        assert_eq!(beliefs.add(fact(1, 63)), Ok(vec![]));
     }
 }

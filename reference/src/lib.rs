@@ -1,4 +1,4 @@
-//! Not proved, and not for linking: the cutting-cell agent and its journal in plain Rust, written from document 01 alone.
+//! Not proved, and not for linking: the cutting-cell agent and its journal in plain Rust, written from documents 01 and 02 alone.
 //!
 //! It shares nothing with the proved program: what the two answer is compared byte by byte
 //! (`tests/differential`) and timed side by side (`bench`).

@@ -124,7 +124,7 @@ fn initial_beliefs(literals: &[Literal]) -> Option<Vec<Fact>> {
     let mut facts = Vec::with_capacity(MOST_BELIEFS);
     for literal in literals {
         let fact = literal.ground(&Bindings::default())?;
-        if facts.contains(&fact) {
+        if facts.contains(&fact) || facts.contains(&fact.opposite()) {
             return None;
         }
         facts.push(fact);
@@ -271,9 +271,11 @@ mod tests {
     }
 
     #[test]
-    fn beliefs_are_ground_and_different() {
+    fn beliefs_are_ground_and_different_without_opposites() {
         assert_eq!(refused(&[0, 0, 1, 0, 1, 0, 248, 255, 0, 0, 0, 0]), Some(3));
         assert_eq!(refused(&[0, 0, 2, 0, 1, 0, 5, 0, 0, 0, 0, 0, 1, 0, 5, 0, 0, 0, 0, 0]), Some(3));
-        assert_eq!(refused(&[0, 0, 2, 0, 1, 0, 5, 0, 0, 0, 0, 0, 1, 128, 5, 0, 0, 0, 0, 0]), None);
+        assert_eq!(refused(&[0, 0, 2, 0, 1, 0, 5, 0, 0, 0, 0, 0, 1, 128, 5, 0, 0, 0, 0, 0]), Some(3));
+        assert_eq!(refused(&[0, 0, 2, 0, 1, 128, 5, 0, 0, 0, 0, 0, 1, 0, 5, 0, 0, 0, 0, 0]), Some(3));
+        assert_eq!(refused(&[0, 0, 2, 0, 1, 128, 5, 0, 0, 0, 0, 0, 1, 0, 6, 0, 0, 0, 0, 0]), None);
     }
 }

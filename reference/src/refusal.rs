@@ -9,7 +9,7 @@ pub enum Refusal {
     Contents = 1,
     /// An entry, or the file's end, is not where packing puts it.
     Packing = 2,
-    /// An initial belief has a variable or stands twice.
+    /// An initial belief has a variable, stands twice or has its opposite beside it.
     InitialBelief = 3,
     /// A plan is off the layout or has another length.
     Plan = 4,

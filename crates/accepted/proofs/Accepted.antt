@@ -78,7 +78,7 @@ module _ (bytes : List ℕ) (accepted : Accepted bytes) where
 
   pub beliefs-distinct : distinct same (beliefsOf bytes) ≡ true
   unfolding beliefsOk
-  beliefs-distinct = and-parts (all isGround (beliefsOf bytes)) _ (passed .2) .1
+  beliefs-distinct = and-parts (distinct same (beliefsOf bytes)) _ (and-parts (all isGround (beliefsOf bytes)) _ (passed .2) .1) .0
 
   pub belief-ground : (i : ℕ) → i < length (beliefsOf bytes) → isGround (getD (beliefsOf bytes) i noLiteral) ≡ true
   belief-ground i h = all-at isGround (beliefsOf bytes) i noLiteral beliefs-ground h

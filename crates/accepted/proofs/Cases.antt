@@ -5,7 +5,7 @@ use mathlib.Core.List.{[], _∷_}
 use lib.ListN.{length, drop}
 use lib.Dec.{eqb}
 use Rattle.lists.specs.Search.{all, any, distinct}
-use Rattle.literal.specs.Literal.{isGround, same}
+use Rattle.literal.specs.Literal.{isGround, same, opposite}
 use Rattle.library.specs.Bytes.{u16At, items, rows, rowsEnd}
 use Rattle.library.specs.Layout.{situationAt, situationEnd, actionsAt, actionsEnd, statesAt, statesEnd, maintenanceOff, successOff, failureOff, statesOff, planEnd, planAt, planCount, beliefCount, plansOff, beliefsOf, libraryOf}
 use Rattle.accepted.specs.Rules.{situationOk, actionsOk, branchOk, stateOk, statesFrom, entriesIn, entries, isTree, statesOk, planOk, beliefsOk}
@@ -20,7 +20,7 @@ abbrev agrees : RefusalCase → Bool
 agrees c = eqb (refusalOf (c .bytes)) (c .refused)
 
 pub refusal-cases : all agrees refusalCases ≡ true
-unfolding refusalCases journalLibrary refusalOf contentsFit packedFrom isPacked beliefsOk planFitsAt plansFit planCount beliefCount plansOff beliefsOf u16At items rows rowsEnd all any distinct isGround same situationAt situationEnd actionsAt actionsEnd statesAt statesEnd maintenanceOff successOff failureOff statesOff planEnd planAt situationOk actionsOk branchOk stateOk statesFrom entriesIn entries isTree statesOk planOk
+unfolding refusalCases journalLibrary refusalOf contentsFit packedFrom isPacked beliefsOk planFitsAt plansFit planCount beliefCount plansOff beliefsOf u16At items rows rowsEnd all any distinct isGround same opposite situationAt situationEnd actionsAt actionsEnd statesAt statesEnd maintenanceOff successOff failureOff statesOff planEnd planAt situationOk actionsOk branchOk stateOk statesFrom entriesIn entries isTree statesOk planOk
 refusal-cases = refl
 
 pub case-8 : (refusalOf (0 ∷ 0 ∷ 0 ∷ 0 ∷ []) ≡ 0) × (refusalOf (0 ∷ 0 ∷ 0 ∷ []) ≡ 1) × (refusalOf (0 ∷ 0 ∷ 0 ∷ 0 ∷ 0 ∷ []) ≡ 2)

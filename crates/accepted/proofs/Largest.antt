@@ -10,7 +10,7 @@ use lib.ListN.{length, length-append}
 use lib.Dec.{eqb, ltb}
 use Rattle.lists.specs.Search.{all, any, distinct}
 use Rattle.lists.proofs.BoolLaws.{and-parts, and-both}
-use Rattle.literal.specs.Literal.{isGround, same}
+use Rattle.literal.specs.Literal.{isGround, same, opposite}
 use Rattle.library.specs.Bytes.{u16At, items, rows, rowsEnd}
 use Rattle.library.specs.Layout.{situationAt, situationEnd, actionsAt, actionsEnd, statesAt, statesEnd, maintenanceOff, successOff, failureOff, statesOff, planEnd, planAt, planCount, beliefCount, plansOff, beliefsOf, entryOff, entryLength}
 use Rattle.accepted.specs.Rules.{situationOk, actionsOk, branchOk, stateOk, statesFrom, entriesIn, entries, isTree, statesOk, planOk, numbers, beliefsOk}
@@ -96,7 +96,7 @@ module _ (rest : List ℕ) where
   entries-right = refl
 
   beliefs-right : beliefsOk (beliefsOf (header ++ rest)) ≡ true
-  unfolding header entryBytes beliefBytes times u16At all any distinct items beliefsOk beliefsOf planCount beliefCount isGround same
+  unfolding header entryBytes beliefBytes times u16At all any distinct items beliefsOk beliefsOf planCount beliefCount isGround same opposite
   beliefs-right = refl
 
 -- ---- Its length

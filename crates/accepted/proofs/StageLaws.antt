@@ -9,7 +9,7 @@ use borrow.Author.Tests.{le-leb, lt-leb, lt-ltb, le-ltb, eq-eqb, ne-eqb}
 use lib.ListN.{length}
 use lib.Dec.{leb, eqb}
 use Rattle.lists.specs.Search.{all, any, distinct}
-use Rattle.literal.specs.Literal.{isGround, same}
+use Rattle.literal.specs.Literal.{isGround, same, opposed}
 use Rattle.library.specs.Bytes.{literalAt, items}
 use Rattle.library.specs.Layout.{planCount, beliefCount, plansOff, entryOff, entryLength, beliefsOf}
 use Rattle.accepted.specs.Rules.{numbers, beliefsOk}
@@ -84,10 +84,15 @@ module _ (bytes : List ℕ) (plans beliefs : ℕ) (p : plans ≡ planCount bytes
   unfolding beliefsOk beliefsOf
   ground-fails h = rw (← p, ← b, h)
 
-  pub distinct-decides : all isGround (items (literalAt bytes) 8 beliefs (4 + 4 * plans)) ≡ true
-      → distinct same (items (literalAt bytes) 8 beliefs (4 + 4 * plans)) ≡ beliefsOk (beliefsOf bytes)
-  unfolding beliefsOk beliefsOf
-  distinct-decides h = rw (← p, ← b, h)
+  module _ (ground : all isGround (items (literalAt bytes) 8 beliefs (4 + 4 * plans)) ≡ true) where
+    pub repeated-fails : distinct same (items (literalAt bytes) 8 beliefs (4 + 4 * plans)) ≡ false → false ≡ beliefsOk (beliefsOf bytes)
+    unfolding beliefsOk beliefsOf
+    repeated-fails h = rw (← p, ← b, ground, h)
+
+    pub opposed-decides : distinct same (items (literalAt bytes) 8 beliefs (4 + 4 * plans)) ≡ true
+        → distinct opposed (items (literalAt bytes) 8 beliefs (4 + 4 * plans)) ≡ beliefsOk (beliefsOf bytes)
+    unfolding beliefsOk beliefsOf
+    opposed-decides h = rw (← p, ← b, ground, h)
 
 -- ---- 4: plans
 

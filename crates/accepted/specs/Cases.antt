@@ -85,10 +85,12 @@ refusalCases =
     ∷ refusedWith 2 (changed 4 9)
     ∷ refusedWith 2 (changed 6 49)
     ∷ refusedWith 2 (take 57 journalLibrary)
-    -- 3: a belief with V0; a belief twice
+    -- 3: a belief with V0; a belief twice; a belief and its opposite
     ∷ refusedWith 3 (0 ∷ 0 ∷ 1 ∷ 0 ∷ 1 ∷ 0 ∷ 248 ∷ 255 ∷ 0 ∷ 0 ∷ 0 ∷ 0 ∷ [])
     ∷ refusedWith 3
     (0 ∷ 0 ∷ 2 ∷ 0 ∷ 1 ∷ 0 ∷ 5 ∷ 0 ∷ 0 ∷ 0 ∷ 0 ∷ 0 ∷ 1 ∷ 0 ∷ 5 ∷ 0 ∷ 0 ∷ 0 ∷ 0 ∷ 0 ∷ [])
+    ∷ refusedWith 3
+    (0 ∷ 0 ∷ 2 ∷ 0 ∷ 1 ∷ 0 ∷ 5 ∷ 0 ∷ 0 ∷ 0 ∷ 0 ∷ 0 ∷ 1 ∷ 128 ∷ 5 ∷ 0 ∷ 0 ∷ 0 ∷ 0 ∷ 0 ∷ [])
     -- 4: a plan of no bytes; trigger kind 5; five alternatives; action kind 2; no states; five branches; branch kind 5;
     -- a negative external action; next states 0 and 2 of two; a plan of 51 bytes that ends after 50
     ∷ refusedWith 4 (1 ∷ 0 ∷ 0 ∷ 0 ∷ 8 ∷ 0 ∷ 0 ∷ 0 ∷ [])

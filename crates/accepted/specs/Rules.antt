@@ -7,7 +7,7 @@ use lib.ListN.{length}
 use lib.Dec.{ltb, leb, eqb}
 use Rattle.lists.specs.Search.{all, distinct}
 use Rattle.literal.specs.declared.Literal.{Literal}
-use Rattle.literal.specs.Literal.{negative, isGround, same}
+use Rattle.literal.specs.Literal.{negative, isGround, same, opposed}
 use Rattle.library.specs.declared.Action.{Action}
 use Rattle.library.specs.declared.Branch.{Branch}
 use Rattle.library.specs.Plan.{Situation, Plan, Library}
@@ -88,9 +88,9 @@ mostPlans = 32
 abbrev pub mostBeliefs : ℕ
 mostBeliefs = 64
 
--- the initial beliefs are ground and all different
+-- the initial beliefs are ground and all different, with no opposites
 unfoldable pub beliefsOk : List Literal → Bool
-beliefsOk beliefs = all isGround beliefs && distinct same beliefs
+beliefsOk beliefs = all isGround beliefs && (distinct same beliefs && distinct opposed beliefs)
 
 -- what every accepted library is, as a value
 unfoldable pub libraryOk : Library → Bool

@@ -11,10 +11,12 @@ use library::contents::plan_count;
 use literal::Literal;
 use literal::is_ground;
 use literal::is_same;
+use literal::opposite_of;
 ghost use mathlib.Core.Path.{_≡_};
 ghost use Prim.Native.Nat.{_<_, _^_};
 ghost use Rattle.lists.specs.Search.{all, any, distinct};
-ghost use Rattle.literal.specs.Literal.{isGround, same};
+ghost use Rattle.literal.specs.Literal.{isGround, same, opposite};
+ghost use mathlib.Core.Bool.{cond};
 ghost use Rattle.library.specs.Bytes.{literalAt, items};
 ghost use Rattle.library.specs.Layout.{beliefsOf};
 ghost use Rattle.accepted.specs.Refusal.{contentsFit, isPacked, plansFit};
@@ -99,25 +101,36 @@ fn any_same(bytes: &[u8], literal: Literal, from: usize, n: usize) -> bool
     false
 }
 
-// Whether n literals are all different.
-fn all_distinct(bytes: &[u8], from: usize, n: usize) -> bool
+// The literal, or its opposite.
+fn signed(flip: bool, l: Literal) -> Literal
+    ensures { λ r. ⌜ r ≡ cond flip (opposite l) l ⌝ }
+{
+    if flip {
+        return opposite_of(l);
+    }
+    l
+}
+
+// Whether of n literals none is the same as a later one, or none its opposite.
+fn all_distinct(bytes: &[u8], from: usize, n: usize, flip: bool) -> bool
     requires { ⌜ (from < 2 ^ 20) × (n < 2 ^ 16) ⌝ }
-    ensures { λ r. ⌜ r ≡ distinct same (items (literalAt (now (bytes .entry))) 8 n from) ⌝ }
+    ensures { λ r. ⌜ r ≡ distinct (λ l. same (cond flip (opposite l) l)) (items (literalAt (now (bytes .entry))) 8 n from) ⌝ }
 {
     let mut at = from;
     let mut left = n;
     while 0 < left {
         let literal = literal_at(bytes, at);
+        let wanted = signed(flip, literal);
         at += LITERAL_BYTES;
         left -= 1;
-        if any_same(bytes, literal, at, left) {
+        if any_same(bytes, wanted, at, left) {
             return false;
         }
     }
     true
 }
 
-// 3: the initial beliefs are ground and all different.
+// 3: the initial beliefs are ground and all different, with no opposites.
 pub(crate) fn beliefs_ok(library: &[u8]) -> bool
     ensures { λ r. ⌜ r ≡ beliefsOk (beliefsOf (now (library .entry))) ⌝ }
 {
@@ -127,7 +140,10 @@ pub(crate) fn beliefs_ok(library: &[u8]) -> bool
     if !all_ground(library, from, beliefs) {
         return false;
     }
-    all_distinct(library, from, beliefs)
+    if !all_distinct(library, from, beliefs, false) {
+        return false;
+    }
+    all_distinct(library, from, beliefs, true)
 }
 
 // 4: every plan keeps the rules, and ends where its entry says.

@@ -1,12 +1,11 @@
 // The belief table by value: a literal held, added or removed, and the rules for beliefs.
 ghost use mathlib.Core.Path.{_≡_};
-ghost use mathlib.Core.Bool.{_&&_};
 ghost use Prim.Native.Nat.{_+_, _-_, _<_, _≤_};
 ghost use lib.ListN.{take, drop};
-ghost use Rattle.lists.specs.Search.{all, distinct, position};
+ghost use Rattle.lists.specs.Search.{position};
 ghost use Rattle.lists.specs.Gap.{closeGap};
-ghost use Rattle.literal.specs.Literal.{isGround, same};
-ghost use Rattle.belief.specs.Beliefs.{size, view, holds};
+ghost use Rattle.literal.specs.Literal.{same};
+ghost use Rattle.belief.specs.Beliefs.{size, view, holds, areSound, fits};
 ghost use Rattle.belief.specs.Table.{add, remove, isTable};
 use literal::Literal;
 
@@ -25,11 +24,12 @@ pub struct Change {
     pub literal: Literal,
 }
 
-// The table after an add or a removal, whether it changed, and whether there was room.
+// The table after an add or a removal, whether it changed, whether there was room, and whether an add took out the opposite.
 pub struct Applied {
     pub table: Beliefs,
     pub changed: bool,
     pub fitted: bool,
+    pub cleared: bool,
 }
 
 // How many places are in use.
@@ -85,33 +85,18 @@ pub fn is_held(b: Beliefs, l: Literal) -> bool
     place < n
 }
 
-// The table with the literal: last where it is new and there is room.
-pub fn added(b: Beliefs, l: Literal) -> Applied
-    ensures { λ r. ⌜ r ≡ add b l ⌝ }
+// Whether an add of the literal fits: it is held, or takes out its opposite, or finds fewer than 64.
+pub fn has_room(b: Beliefs, l: Literal) -> bool
+    ensures { λ r. ⌜ r ≡ fits (view b) l ⌝ }
 {
     if is_held(b, l) {
-        return Applied {
-            table: b,
-            changed: false,
-            fitted: true,
-        };
+        return true;
     }
-    let n = b.count;
-    if MOST_BELIEFS <= n {
-        return Applied {
-            table: b,
-            changed: false,
-            fitted: false,
-        };
+    let other = literal::opposite_of(l);
+    if is_held(b, other) {
+        return true;
     }
-    let mut next = b;
-    next.items[n] = l;
-    next.count = n + 1;
-    Applied {
-        table: next,
-        changed: true,
-        fitted: true,
-    }
+    b.count < MOST_BELIEFS
 }
 
 // The table without the literal; the others keep their order.
@@ -125,6 +110,7 @@ pub fn removed(b: Beliefs, l: Literal) -> Applied
             table: b,
             changed: false,
             fitted: true,
+            cleared: false,
         };
     }
     let closed = b.closed(place, n);
@@ -132,13 +118,48 @@ pub fn removed(b: Beliefs, l: Literal) -> Applied
         table: closed,
         changed: true,
         fitted: true,
+        cleared: false,
     }
 }
 
-// Whether the first n items are ground and all different.
+// The table with the literal: last where it is new and there is room once its opposite is taken out.
+pub fn added(b: Beliefs, l: Literal) -> Applied
+    ensures { λ r. ⌜ r ≡ add b l ⌝ }
+{
+    if is_held(b, l) {
+        return Applied {
+            table: b,
+            changed: false,
+            fitted: true,
+            cleared: false,
+        };
+    }
+    let other = literal::opposite_of(l);
+    let without = removed(b, other);
+    let mut next = without.table;
+    let n = next.count;
+    if MOST_BELIEFS <= n {
+        return Applied {
+            table: b,
+            changed: false,
+            fitted: false,
+            cleared: false,
+        };
+    }
+    next.items[n] = l;
+    next.count = n + 1;
+    Applied {
+        table: next,
+        changed: true,
+        fitted: true,
+        cleared: without.changed,
+    }
+}
+
+// Whether the first n items are ground and all different, with no opposites.
 fn are_beliefs(b: Beliefs, n: usize) -> bool
     requires { ⌜ n ≤ 64 ⌝ }
-    ensures { λ r. ⌜ r ≡ (all isGround (take n (b .items)) && distinct same (take n (b .items))) ⌝ }
+    ensures { λ r. ⌜ r ≡ areSound (take n (b .items)) ⌝ }
 {
     let mut i: usize = 0;
     while i < n {
@@ -150,11 +171,15 @@ fn are_beliefs(b: Beliefs, n: usize) -> bool
         if b.place_from(n, i, item) < n {
             return false;
         }
+        let other = literal::opposite_of(item);
+        if b.place_from(n, i, other) < n {
+            return false;
+        }
     }
     true
 }
 
-// The rules for beliefs: at most 64, all ground, all different.
+// The rules for beliefs: at most 64, all ground, all different, no opposites.
 pub fn is_table(b: Beliefs) -> bool
     ensures { λ r. ⌜ r ≡ isTable b ⌝ }
 {

@@ -20,7 +20,7 @@ use Rattle.accepted.specs.Refusal.{refusalOf}
 use Rattle.model.specs.State.{AgentState, Call, Reply, viewResult}
 use Rattle.model.specs.Changes.{alters, effective, areEffective}
 use Rattle.model.specs.Calls.{callBy, call}
-use Rattle.model.proofs.ChangeLaws.{effective-join}
+use Rattle.model.proofs.ChangeLaws.{effective-join, effective-alone}
 use Rattle.model.proofs.CallLaws.{promises}
 use Rattle.model.proofs.AcceptedLibrary.{acceptable}
 use Rattle.state.specs.View.{viewState}
@@ -110,8 +110,8 @@ module _ (table : Beliefs) (h : Sound table) (c : Change) where
 
   -- so one that takes effect is applied
   step-effect : (isGround (c .literal) && alters (view table) c) ≡ true → view (step table c) ≡ change (view table) c
-  unfolding effective replay
-  step-effect e = step-view ∙ rw e
+  unfolding replay
+  step-effect e = step-view ∙ ap (replay (view table)) (effective-alone (view table) c e)
 
 steps-effect : (table : Beliefs) → Sound table → (changes : List Change) → areEffective (view table) changes ≡ true → view (steps table changes) ≡ replay (view table) changes
 unfolding areEffective steps replay

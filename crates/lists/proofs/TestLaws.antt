@@ -1,10 +1,10 @@
 -- Laws of tests on lists that are joined, or lose an element.
 use Prim.Native.Nat.{ℕ, zero, suc}
-use mathlib.Core.Path.{_≡_, refl, _∙_}
-use mathlib.Core.Bool.{Bool, true, false, not}
+use mathlib.Core.Path.{_≡_, refl, sym, subst, _∙_}
+use mathlib.Core.Bool.{Bool, true, false, cond, not}
 use mathlib.Core.List.{List, [], _∷_, _++_}
 use borrow.Author.Tests.{not-true}
-use Rattle.lists.specs.Search.{any, all, distinct}
+use Rattle.lists.specs.Search.{any, all, distinct, position}
 use Rattle.lists.specs.Gap.{removeAt}
 use Rattle.lists.proofs.BoolLaws.{and-parts, and-both, or-parts}
 
@@ -57,3 +57,17 @@ module _ {A : Type 0} (equal : A → A → Bool) where
       let parts = and-parts (not (any (equal x) xs)) (distinct equal xs) p in
       let others = none-removed (equal x) i xs (not-true (any (equal x) xs) (parts .0)) in
       and-both (not (any (equal x) (removeAt i xs))) _ (not-any others) (distinct-removed i xs (parts .1))
+
+  -- of a distinct list, what equals the element removed is gone
+  pub removed-gone : ((x y : A) → equal x y ≡ true → x ≡ y) → (y : A) (xs : List A) → distinct equal xs ≡ true → any (equal y) (removeAt (position (equal y) xs) xs) ≡ false
+  unfolding distinct any position
+  removed-gone to y [] p = refl
+  removed-gone to y (x ∷ xs) p = go (equal y x) refl (removed-gone to y xs)
+    where
+      parts : (not (any (equal x) xs) ≡ true) × (distinct equal xs ≡ true)
+      parts = and-parts (not (any (equal x) xs)) (distinct equal xs) p
+
+      go : (b : Bool) → equal y x ≡ b → (distinct equal xs ≡ true → any (equal y) (removeAt (position (equal y) xs) xs) ≡ false)
+          → any (equal y) (removeAt (cond b 0 (suc (position (equal y) xs))) (x ∷ xs)) ≡ false
+      go true e rest = subst (λ z. any (equal z) xs ≡ false) (sym (to y x e)) (not-true (any (equal x) xs) (parts .0))
+      go false e rest = rw e (rest (parts .1))

@@ -1,10 +1,10 @@
 -- Laws of literals: the last test of each chain of tests, and that the same literals are equal.
-use Prim.Native.Nat.{_+_, _-_, _<_}
+use Prim.Native.Nat.{ℕ, _+_, _-_, _%_, _<_}
 use native.Mathlib.Omega.{arith}
-use mathlib.Core.Path.{_≡_, refl, sym, _∙_}
-use mathlib.Core.Bool.{true, false}
+use mathlib.Core.Path.{_≡_, refl, ap, sym, _∙_}
+use mathlib.Core.Bool.{true, false, cond}
 use lib.Dec.{ltb, eqb}
-use borrow.Author.Tests.{lt-ltb, le-ltb, ltb-false, eq-eqb, ne-eqb, eqb-true}
+use borrow.Author.Tests.{lt-ltb, le-ltb, ltb-true, ltb-false, eq-eqb, ne-eqb, eqb-true}
 use Rattle.lists.proofs.BoolLaws.{by-cases, both-ways, and-parts}
 use Rattle.literal.specs.declared.Literal.{Literal}
 use Rattle.literal.specs.Literal.{firstVariable, isGround, same, negative, oppositeHead, opposite}
@@ -44,13 +44,17 @@ same-either-way l m = by-cases (same l m)
 
 -- ---- Opposites
 
+-- of every head that a literal can have: 32,768 is added to a positive one and taken from a negative one, as document 01 writes the sign
+pub opposite-of-head : (head : ℕ) → head < 65536 → oppositeHead head ≡ cond (ltb head negative) (head + negative) (head - negative)
+opposite-of-head head h = let e : head % 65536 ≡ head = omega arith in ap (λ (n : ℕ). cond (ltb n negative) (head + negative) (head - negative)) e
+
 -- a literal is not its opposite
 pub opposite-differs : (l : Literal) → same l (opposite l) ≡ false
 unfolding same opposite
 opposite-differs l = rw (ne-eqb (l .head) (oppositeHead (l .head)) other)
   where
     other : l .head ≡ oppositeHead (l .head) → ⊥
-    other = by-cases (ltb (l .head) negative) (λ p. rw p (λ e. omega arith)) (λ p. rw p (λ e. omega (arith, ltb-false (l .head) negative p)))
+    other = by-cases (ltb (l .head % 65536) negative) (λ p. rw p (λ e. omega arith)) (λ p. rw p (λ e. omega (arith, ltb-false (l .head % 65536) negative p)))
 
 -- it is ground where the literal is
 pub opposite-ground : (l : Literal) → isGround (opposite l) ≡ isGround l
@@ -58,11 +62,17 @@ unfolding isGround opposite
 opposite-ground l = refl
 
 -- the opposite's opposite is the literal
-pub opposite-twice : (l : Literal) → l .head < 65536 → opposite (opposite l) ≡ l
+pub opposite-twice : (l : Literal) → opposite (opposite l) ≡ l
 unfolding opposite
-opposite-twice l h = λ i. record { head = back i; first = l .first; second = l .second; third = l .third }
+opposite-twice l = λ i. record { head = back i; first = l .first; second = l .second; third = l .third }
   where
     back : oppositeHead (oppositeHead (l .head)) ≡ l .head
-    back = by-cases (ltb (l .head) negative)
-        (λ p. let q = le-ltb (l .head + negative) negative (omega arith) in rw (p, q) (omega arith))
-        (λ p. let k = ltb-false (l .head) negative p in let q = lt-ltb (l .head - negative) negative (omega arith) in rw (p, q) (omega arith))
+    back = by-cases (ltb (l .head % 65536) negative)
+        (λ p. let k = ltb-true (l .head % 65536) negative p in let q = le-ltb ((l .head + negative) % 65536) negative (omega arith) in rw (p, q) (omega arith))
+        (λ p. let k = ltb-false (l .head % 65536) negative p in let q = lt-ltb ((l .head - negative) % 65536) negative (omega arith) in rw (p, q) (omega arith))
+
+-- of two literals, one is the other's opposite just where the other is its
+pub opposite-either-way : (l m : Literal) → same (opposite l) m ≡ same (opposite m) l
+opposite-either-way l m = by-cases (same (opposite l) m)
+    (λ p. p ∙ sym (equal-same (opposite m) l (ap opposite (sym (same-equal (opposite l) m p)) ∙ opposite-twice l)))
+    (λ p. by-cases (same (opposite m) l) (λ q. both-ways (equal-same (opposite l) m (ap opposite (sym (same-equal (opposite m) l q)) ∙ opposite-twice m)) p) (λ q. p ∙ sym q))

@@ -7,19 +7,18 @@ use native.Mathlib.Omega.{arith}
 use lib.Dec.{ltb, leb}
 use lib.ListN.{length, getD, List·getD-eq-default}
 use borrow.Author.Tests.{ltb-true, ltb-false, le-leb}
-use Rattle.lists.specs.Search.{all, distinct}
 use Rattle.lists.specs.Counts.{Every}
 use Rattle.lists.proofs.BoolLaws.{by-cases, and-both}
-use Rattle.literal.specs.Literal.{isGround, same}
 use Rattle.belief.specs.Beliefs.{mostBeliefs, areSound, areBeliefs}
 use Rattle.library.specs.declared.Branch.{Branch}
 use Rattle.library.specs.Plan.{Plan, noPlan, noBranch}
 use Rattle.library.specs.Layout.{planCount, planOf, beliefsOf, libraryOf}
+use Rattle.accepted.specs.Rules.{beliefsOk}
 use Rattle.accepted.specs.Refusal.{Accepted}
 use Rattle.library.proofs.PartLaws.{length-plans, plan-is}
 use Rattle.accepted.proofs.RuleFacts.{few-actions, some-state}
-use Rattle.accepted.proofs.Accepted.{few-beliefs, beliefs-ground, beliefs-distinct, keeps, branch-above, branch-below}
-use Rattle.model.specs.State.{mostChanges, Call}
+use Rattle.accepted.proofs.Accepted.{passed, few-beliefs, keeps, branch-above, branch-below}
+use Rattle.model.specs.State.{mostActions, Call}
 use Rattle.model.specs.WellFormed.{isWellFormed}
 use Rattle.model.specs.Formed.{Acceptable}
 use Rattle.model.specs.Calls.{loaded}
@@ -49,18 +48,18 @@ module _ (bytes : List ℕ) (accepted : Accepted bytes) where
   -- ---- What acceptance gives
 
   pub acceptable : Acceptable (libraryOf bytes)
-  unfolding libraryOf areBeliefs
+  unfolding libraryOf areBeliefs beliefsOk
   acceptable = record {
     beliefs =
         and-both (leb (length (beliefsOf bytes)) mostBeliefs) (areSound (beliefsOf bytes)) (le-leb _ _ (few-beliefs bytes accepted))
-        (and-both (all isGround (beliefsOf bytes)) (distinct same (beliefsOf bytes)) (beliefs-ground bytes accepted) (beliefs-distinct bytes accepted));
+        (passed bytes accepted .2);
     begun = λ plan h. of-plan (λ p. 0 < length (p .states)) plan h (λ t. some-state (planOf bytes plan .states) (keeps bytes accepted plan t .states));
     upward = λ plan state branch h. of-plan (λ p. branch < length (getD (p .states) state []) → state < getD (getD (p .states) state []) branch noBranch .next) plan h
         (λ t b. branch-above bytes accepted plan t state branch (has-state (planOf bytes plan .states) state branch b) b);
     inside = λ plan state branch h. of-plan (λ p. branch < length (getD (p .states) state []) → getD (getD (p .states) state []) branch noBranch .next < length (p .states)) plan h
         (λ t b. branch-below bytes accepted plan t state branch (has-state (planOf bytes plan .states) state branch b) b);
-    success = λ plan h. of-plan (λ p. length (p .success) ≤ mostChanges) plan h (λ t. few-actions (planOf bytes plan .success) (keeps bytes accepted plan t .success));
-    failure = λ plan h. of-plan (λ p. length (p .failure) ≤ mostChanges) plan h (λ t. few-actions (planOf bytes plan .failure) (keeps bytes accepted plan t .failure));
+    success = λ plan h. of-plan (λ p. length (p .success) ≤ mostActions) plan h (λ t. few-actions (planOf bytes plan .success) (keeps bytes accepted plan t .success));
+    failure = λ plan h. of-plan (λ p. length (p .failure) ≤ mostActions) plan h (λ t. few-actions (planOf bytes plan .failure) (keeps bytes accepted plan t .failure));
   }
 
   -- ---- The theorems, by bytes

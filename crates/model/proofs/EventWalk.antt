@@ -132,7 +132,7 @@ module _ (library : Library) (s : AgentState) (w : WellFormed library s) where
           to-stacks = like-refl (s .stacks);
           beliefs = refl;
           table = report-kept (s .beliefs) kind l (w .table);
-          effect = report-does (s .beliefs) kind l;
+          effect = report-does (s .beliefs) kind l (w .table);
           few = omega (arith, report-few (s .beliefs) kind l);
         }
 

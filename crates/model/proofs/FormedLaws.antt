@@ -6,14 +6,14 @@ use mathlib.Core.Bool.{true, _&&_}
 use native.Mathlib.Omega.{arith}
 use lib.Dec.{leb}
 use lib.ListN.{length}
-use Rattle.lists.specs.Search.{all, distinct}
+use Rattle.lists.specs.Search.{all}
 use Rattle.lists.specs.Counts.{bit, count}
 use Rattle.lists.proofs.BoolLaws.{and-parts}
 use Rattle.lists.proofs.CountLaws.{bit-left, bit-right, bit-every, total-append, total-length, total-le}
 use Rattle.lists.proofs.TestCounts.{any-some}
 use Rattle.lists.proofs.LikeLaws.{Like, like-each}
 use Rattle.literal.specs.declared.Literal.{Literal}
-use Rattle.literal.specs.Literal.{isGround, same}
+use Rattle.literal.specs.Literal.{isGround}
 use Rattle.belief.specs.Beliefs.{mostBeliefs, areSound, areBeliefs}
 use Rattle.library.specs.Plan.{Library}
 use Rattle.model.specs.declared.Event.{Event}
@@ -49,7 +49,7 @@ reform {ks = ks} {ks′ = ks′} a b i = record {
 
 pub beliefs-ground : (beliefs : List Literal) → areBeliefs beliefs ≡ true → all isGround beliefs ≡ true
 unfolding areBeliefs
-beliefs-ground beliefs h = and-parts (all isGround beliefs) (distinct same beliefs) (and-parts (leb (length beliefs) mostBeliefs) (areSound beliefs) h .1) .0
+beliefs-ground beliefs h = and-parts (all isGround beliefs) _ (and-parts (leb (length beliefs) mostBeliefs) (areSound beliefs) h .1) .0
 
 -- ---- A first stack
 

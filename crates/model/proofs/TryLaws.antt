@@ -30,7 +30,7 @@ pub record Stepping (beliefs : List Literal) (env : Env) (changes : List Change)
   pub env-ok : isEnv env ≡ true
   pub table : areBeliefs (replay beliefs changes) ≡ true
   pub effect : areEffective beliefs changes ≡ true
-  pub few : length changes ≤ 1
+  pub few : length changes ≤ 2
 
 -- a posted goal is the branch's, ground, on a stack that is not full
 pub record Posting (height : ℕ) (kind : ℕ) (literal goal : Literal) : Type 0 where
@@ -56,7 +56,7 @@ module _ (beliefs : List Literal) (height : ℕ) (env : Env) (b : Branch) where
     change-ok c = go (isPossible beliefs c)
       where
         go : (p : Bool) → TryOk (cond p (stepped env (effective beliefs c)) missed)
-        go true = record { env-ok = e; table = effective-kept beliefs c h; effect = effective-does beliefs c; few = effective-few beliefs c }
+        go true = record { env-ok = e; table = effective-kept beliefs c h; effect = effective-does beliefs c h; few = effective-few beliefs c }
         go false = tt
 
     action-ok : isActionKind (b .kind) ≡ true → (l : Literal) → TryOk (tryAction l)

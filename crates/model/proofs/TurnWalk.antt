@@ -24,7 +24,7 @@ use Rattle.model.specs.declared.Event.{Event}
 use Rattle.model.specs.declared.Instance.{Instance}
 use Rattle.model.specs.declared.Answer.{Answer}
 use Rattle.model.specs.declared.Answer.the-variants.{Idle, Succeeded, Failed}
-use Rattle.model.specs.State.{mostChanges, Intention, AgentState, Call, report, cycle, outcome}
+use Rattle.model.specs.State.{mostActions, Intention, AgentState, Call, report, cycle, outcome}
 use Rattle.model.specs.Instance.{isWaiting, isSuspended, planOf, pastBranch}
 use Rattle.model.specs.Live.{isOf, eventOn, live, isReady}
 use Rattle.model.specs.Changes.{areEffective}
@@ -129,7 +129,7 @@ module _ (library : Library) (r : Acceptable library) (s : AgentState) (w : Well
       queued = first-served formed-stack
 
       -- where a step is known, and a list of at most four actions
-      ended : (answer : Answer) (actions : List Action) → length actions ≤ mostChanges → (q q′ now : List Event) (change : Instance → Instance)
+      ended : (answer : Answer) (actions : List Action) → length actions ≤ mostActions → (q q′ now : List Event) (change : Instance → Instance)
           → Like (s .queue) q → Like q′ now
           → Step library (s .taken) (s .made) cycle q (k .it ∷ others) answer (s .taken) (s .made) q′ (popped (k .it .external) change (k .it .below) ++ others)
           → Moved library s cycle (endTop s k answer actions now change)
@@ -146,7 +146,7 @@ module _ (library : Library) (r : Acceptable library) (s : AgentState) (w : Well
         to-stacks = like-turn (popped (k .it .external) change (k .it .below)) others;
         beliefs = refl;
         table = effects-kept (s .beliefs) (k .it .top .env) actions (w .table);
-        effect = effects-do (s .beliefs) (k .it .top .env) actions;
+        effect = effects-do (s .beliefs) (k .it .top .env) actions (w .table);
         few = omega (arith, effects-few (s .beliefs) (k .it .top .env) actions);
       }
 

@@ -17,7 +17,7 @@ use Rattle.library.specs.Plan.{Library, noBranch, noPlan}
 use Rattle.model.specs.declared.Event.{Event}
 use Rattle.model.specs.declared.Instance.{Instance}
 use Rattle.model.specs.declared.Origin.{Origin}
-use Rattle.model.specs.State.{mostNumber, mostStacks, mostHeight, mostExternal, mostChanges, Intention, AgentState}
+use Rattle.model.specs.State.{mostNumber, mostStacks, mostHeight, mostExternal, mostActions, Intention, AgentState}
 use Rattle.model.specs.Instance.{isSuspended, planOf, branchesOf, branchOf}
 use Rattle.model.specs.Live.{isGoal, isExternal, isOf, Job, live, serves}
 use Rattle.model.specs.Report.{toldKind}
@@ -41,8 +41,8 @@ pub record Acceptable (library : Library) : Type 0 where
   pub inside : (plan state branch : ℕ) → plan < length (library .plans) → branch < length (branchesAt library plan state)
       → getD (branchesAt library plan state) branch noBranch .next < length (getD (library .plans) plan noPlan .states)
   -- success and failure lists have at most 4 actions
-  pub success : (plan : ℕ) → plan < length (library .plans) → length (getD (library .plans) plan noPlan .success) ≤ mostChanges
-  pub failure : (plan : ℕ) → plan < length (library .plans) → length (getD (library .plans) plan noPlan .failure) ≤ mostChanges
+  pub success : (plan : ℕ) → plan < length (library .plans) → length (getD (library .plans) plan noPlan .success) ≤ mostActions
+  pub failure : (plan : ℕ) → plan < length (library .plans) → length (getD (library .plans) plan noPlan .failure) ≤ mostActions
 
 -- ---- An instance and a stack
 

@@ -3,12 +3,11 @@ use Prim.Native.Nat.{ℕ, _+_}
 use mathlib.Core.Bool.{Bool, cond, not, _&&_}
 use mathlib.Core.List.{List, [], _∷_, _++_}
 use lib.Dec.{ltb, leb, eqb}
-use lib.ListN.{length}
 use Rattle.lists.specs.Counts.{count}
 use Rattle.literal.specs.declared.Literal.{Literal}
 use Rattle.literal.specs.Literal.{isGround}
 use Rattle.belief.specs.declared.Change.{Change}
-use Rattle.belief.specs.Beliefs.{mostBeliefs, holds, replay}
+use Rattle.belief.specs.Beliefs.{fits, replay}
 use Rattle.model.specs.declared.Event.{Event}
 use Rattle.model.specs.declared.Origin.the-variants.{External}
 use Rattle.model.specs.declared.Answer.the-variants.{Taken}
@@ -26,9 +25,9 @@ toldKind = 2
 unfoldable pub isReportable : ℕ → Literal → Bool
 isReportable kind literal = leb kind toldKind && isGround literal
 
--- kind 0, literal absent, 64 beliefs
+-- kind 0, literal and opposite absent, 64 beliefs
 unfoldable pub isOverfull : List Literal → ℕ → Literal → Bool
-isOverfull beliefs kind literal = eqb kind 0 && (not (holds beliefs literal) && leb mostBeliefs (length beliefs))
+isOverfull beliefs kind literal = eqb kind 0 && not (fits beliefs literal)
 
 -- the refusal's number, 0 where there is none: 5, 9, 7, 6 in this order
 unfoldable pub reportRefusal : AgentState → ℕ → Literal → ℕ

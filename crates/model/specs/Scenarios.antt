@@ -1,9 +1,10 @@
 -- Longer runs, each as its library, its calls and the results that are wanted: turn order, goals, branches, lists and refusals
 -- (document 01, "The three calls").
-use Prim.Native.Nat.{ℕ}
+use Prim.Native.Nat.{ℕ, _+_}
 use mathlib.Core.Bool.{true, false}
-use mathlib.Core.List.{List, [], _∷_, map}
+use mathlib.Core.List.{List, [], _∷_, _++_, map}
 use Rattle.literal.specs.declared.Literal.{Literal}
+use Rattle.belief.specs.declared.Change.{Change}
 use Rattle.library.specs.declared.Action.{Action}
 use Rattle.library.specs.declared.Branch.{Branch}
 use Rattle.library.specs.Plan.{Situation, Plan, Library}
@@ -329,9 +330,47 @@ illFormed =
       wanted = plain (Refused 10) ∷ plain (Refused 10) ∷ plain (Refused 10) ∷ [];
     }
 
+-- ---- An add takes out its opposite first, as a change of its own (document 02, request 1): in reports, branches and lists
+
+-- the negative literal
+abbrev neg : ℕ → ℕ → Literal
+neg predicate term = lit (predicate + 32768) term
+
+-- the changes of an add that takes out its opposite
+abbrev turned : Literal → Literal → List Change
+turned opposite literal = record { removes = true; literal = opposite } ∷ record { removes = false; literal = literal } ∷ []
+
+abbrev turning : Answer → List Change → Result
+turning answer changes = record { answer = answer; changes = changes }
+
+-- told +1 V0: add -4 V0; succeeded: add -2 V0, +2 V0, -3 V0, +3 V0
+abbrev turner : Plan
+turner =
+    record {
+      kind = 2;
+      trigger = lit 1 V0;
+      context = always;
+      maintenance = always;
+      success = action 0 32770 ∷ action 0 2 ∷ action 0 32771 ∷ action 0 3 ∷ [];
+      failure = [];
+      states = (branch 0 32772 1 ∷ []) ∷ [] ∷ [];
+    }
+
+abbrev opposites : Scenario
+opposites =
+    fromLoaded (record { beliefs = lit 2 5 ∷ lit 3 5 ∷ lit 4 5 ∷ []; plans = turner ∷ [] })
+    (report 0 (neg 4 6) ∷ report 0 (lit 4 6) ∷ report 0 (lit 4 6) ∷ report 1 (neg 4 6) ∷ report 2 (lit 1 5)
+    ∷ cycle ∷ cycle ∷ cycle ∷ cycle ∷ cycle ∷ cycle ∷ cycle ∷ cycle ∷ [])
+    (adding (Taken 1) (neg 4 6) ∷ turning (Taken 2) (turned (neg 4 6) (lit 4 6)) ∷ plain (Taken 3) ∷ plain (Taken 4) ∷ plain (Taken 5)
+    ∷ plain (Dropped 1 0) ∷ plain (Dropped 2 0) ∷ plain (Dropped 3 0) ∷ plain (Dropped 4 0) ∷ plain (MadeExternal 1 0 5)
+    ∷ turning (Stepped 1 0 0 1) (turned (lit 4 5) (neg 4 5))
+    ∷ turning (Succeeded 1)
+    (turned (lit 2 5) (neg 2 5) ++ (turned (neg 2 5) (lit 2 5) ++ (turned (lit 3 5) (neg 3 5) ++ turned (neg 3 5) (lit 3 5))))
+    ∷ plain Idle ∷ [])
+
 abbrev pub scenarios : List Scenario
 scenarios =
-    turns ∷ unmet ∷ met ∷ branches ∷ outcomes ∷ eight ∷ inPlace ∷ effects ∷ applies ∷ drops ∷ full ∷ illFormed ∷ []
+    opposites ∷ turns ∷ unmet ∷ met ∷ branches ∷ outcomes ∷ eight ∷ inPlace ∷ effects ∷ applies ∷ drops ∷ full ∷ illFormed ∷ []
 
 -- ---- Which refusal of a report comes first
 
@@ -365,6 +404,7 @@ reports =
     ∷ reporting (stateOf 65534 31 64) 0 (lit 1 5) 6
     ∷ reporting (stateOf 65534 31 63) 0 (lit 1 5) 0
     ∷ reporting (stateOf 65534 31 64) 0 (lit 7 64) 0
+    ∷ reporting (stateOf 65534 31 64) 0 (neg 7 64) 0
     ∷ reporting (stateOf 65534 31 64) 1 (lit 1 5) 0
     ∷ reporting (stateOf 65534 31 64) 2 (lit 1 5) 0
     ∷ []

@@ -38,9 +38,13 @@ mostExternal = 32
 abbrev pub mostQueued : ℕ
 mostQueued = 88
 
--- the most belief changes of one call
+-- the most actions of a success or failure list
+abbrev pub mostActions : ℕ
+mostActions = 4
+
+-- the most belief changes of one call: an add of a list takes out an opposite
 abbrev pub mostChanges : ℕ
-mostChanges = 4
+mostChanges = 8
 
 -- ---- The state
 

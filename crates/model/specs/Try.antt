@@ -8,7 +8,6 @@ use mathlib.Core.Bool.{Bool, true, false, cond, not, _&&_, _||_}
 use mathlib.Core.Option.{Option, none, some}
 use mathlib.Core.List.{List, [], _∷_, _++_}
 use lib.Dec.{ltb, leb, eqb}
-use lib.ListN.{length}
 use Rattle.lists.specs.Gap.{removeAt}
 use Rattle.lists.specs.Places.{Placed}
 use Rattle.literal.specs.declared.Literal.{Literal}
@@ -16,7 +15,7 @@ use Rattle.literal.specs.declared.Env.{Env}
 use Rattle.literal.specs.Literal.{isGround, opposite}
 use Rattle.literal.specs.Environment.{instantiate}
 use Rattle.belief.specs.declared.Change.{Change}
-use Rattle.belief.specs.Beliefs.{mostBeliefs, holds}
+use Rattle.belief.specs.Beliefs.{holds, fits}
 use Rattle.library.specs.declared.Branch.{Branch}
 use Rattle.situation.specs.Solutions.{ask}
 use Rattle.model.specs.declared.Event.{Event}
@@ -37,9 +36,9 @@ pub data Try : Type 0 where
 
 -- ---- Add or remove (dMARS 8.4.2)
 
--- a change that a branch can make: ground, and not an add of a literal not held that finds 64 beliefs
+-- a change that a branch can make: ground, and not an add that does not fit
 unfoldable pub isPossible : List Literal → Change → Bool
-isPossible beliefs c = isGround (c .literal) && (c .removes || (holds beliefs (c .literal) || ltb (length beliefs) mostBeliefs))
+isPossible beliefs c = isGround (c .literal) && (c .removes || fits beliefs (c .literal))
 
 -- add or remove: missed if not possible; else applied, stepped
 unfoldable pub tryChange : List Literal → Env → Change → Try

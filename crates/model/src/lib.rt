@@ -12,8 +12,11 @@ pub const MOST_NUMBER: Number = 65535;
 // At most this many external events are queued.
 pub const MOST_EXTERNAL: usize = 32;
 
-// How many belief changes one call can make: as many as a success or failure list has actions.
-pub const MOST_CHANGES: usize = 4;
+// A success or failure list has at most this many actions.
+pub const MOST_ACTIONS: usize = 4;
+
+// How many belief changes one call can make: two for each action of a list, since an add takes out its opposite.
+pub const MOST_CHANGES: usize = 8;
 
 // What an event is told apart by: an external number, or a goal's instance, state and branch.
 pub enum Origin {

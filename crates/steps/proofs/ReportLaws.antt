@@ -2,7 +2,7 @@
 use Prim.Native.Nat.{ℕ, suc, _+_, _-_, _<_, _≤_}
 use native.Mathlib.Omega.{arith}
 use mathlib.Core.Path.{_≡_, refl, ap, sym, subst⁻¹, _∙_}
-use mathlib.Core.Bool.{Bool, true, false}
+use mathlib.Core.Bool.{Bool, true, false, not}
 use mathlib.Core.List.{List, [], _∷_, _++_}
 use lib.ListN.{length, take, getD}
 use lib.Seq.{take-suc}
@@ -12,8 +12,7 @@ use Rattle.lists.specs.Counts.{bit, count}
 use Rattle.lists.proofs.CountLaws.{total-append}
 use Rattle.belief.specs.declared.Beliefs.{Beliefs}
 use Rattle.belief.specs.declared.Change.{Change}
-use Rattle.belief.specs.Beliefs.{view, holds}
-use Rattle.belief.proofs.TableSteps.{view-full}
+use Rattle.belief.specs.Beliefs.{view, fits}
 use Rattle.literal.specs.declared.Literal.{Literal}
 use Rattle.literal.specs.Literal.{isGround}
 use Rattle.model.specs.declared.Event.{Event}
@@ -64,14 +63,9 @@ module _ (b : Beliefs) (kind : ℕ) (l : Literal) where
   unfolding isOverfull
   overfull-kind h = rw (ne-eqb kind 0 h)
 
-  module _ (k : kind ≡ 0) where
-    pub overfull-held : holds (view b) l ≡ true → false ≡ isOverfull (view b) kind l
-    unfolding isOverfull
-    overfull-held h = rw (eq-eqb kind 0 k, h)
-
-    pub overfull-new : holds (view b) l ≡ false → length (b .items) ≡ 64 → leb 64 (b .count) ≡ isOverfull (view b) kind l
-    unfolding isOverfull
-    overfull-new h len = rw (eq-eqb kind 0 k, h) (sym (view-full b len))
+  pub overfull-fits : kind ≡ 0 → (room : Bool) → room ≡ fits (view b) l → not room ≡ isOverfull (view b) kind l
+  unfolding isOverfull
+  overfull-fits k room e = rw (eq-eqb kind 0 k, e)
 
 -- ---- The refusal's number
 

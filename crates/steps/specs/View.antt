@@ -1,12 +1,11 @@
 -- What a result and a state mean together: the model's reply. What stands where in a state.
 use Prim.Native.Nat.{ℕ}
 use mathlib.Core.Path.{_≡_}
-use mathlib.Core.List.{[], _∷_}
-use lib.ListN.{length, getD}
+use lib.ListN.{length, getD, replicate}
 use Rattle.model.specs.declared.Answer.{Answer}
 use Rattle.model.specs.declared.Answered.{Answered}
 use Rattle.model.specs.declared.Event.{Event}
-use Rattle.model.specs.State.{mostStacks, mostQueued, Reply, viewResult, noEvent}
+use Rattle.model.specs.State.{mostStacks, mostQueued, mostChanges, Reply, viewResult, noEvent}
 use Rattle.trials.specs.Altered.{noChange}
 use Rattle.state.specs.declared.Stack.{Stack}
 use Rattle.state.specs.declared.State.{State}
@@ -20,7 +19,7 @@ viewActed a = record { result = viewResult (a .result); state = viewState (a .st
 
 -- an answer with no changes
 abbrev pub plain : Answer → Answered
-plain answer = record { answer = answer; changes = noChange ∷ noChange ∷ noChange ∷ noChange ∷ []; count = 0 }
+plain answer = record { answer = answer; changes = replicate mostChanges noChange; count = 0 }
 
 -- such an answer, and the state after it
 abbrev pub plainly : State → Answer → Acted

@@ -12,7 +12,6 @@ ghost use Rattle.steps.specs.Report.{heard, TakesIn, Reports};
 use crate::step;
 use crate::step::Step;
 use belief::Beliefs;
-use belief::MOST_BELIEFS;
 use literal::Literal;
 use model::Answer;
 use model::Event;
@@ -82,10 +81,7 @@ fn is_overfull(b: Beliefs, kind: u16, l: Literal) -> bool
     if kind != 0 {
         return false;
     }
-    if belief::is_held(b, l) {
-        return false;
-    }
-    MOST_BELIEFS <= b.count
+    !belief::has_room(b, l)
 }
 
 // The refusal's number, 0 where there is none.

@@ -2,158 +2,175 @@
 use Prim.Native.Nat.{ℕ, suc, _+_, _<_, _≤_, min}
 use native.Mathlib.Numerals.{add-one}
 use native.Mathlib.Omega.{arith}
-use mathlib.Core.Path.{_≡_, refl, ap, sym, _∙_}
-use mathlib.Core.Bool.{Bool, true, false, not, _&&_, _||_}
+use mathlib.Core.Path.{_≡_, refl, ap, ap₂, sym, _∙_}
+use mathlib.Core.Bool.{Bool, true, false, cond, not, _&&_}
 use mathlib.Core.List.{List, [], _∷_, _++_, append-nil, append-assoc}
-use lib.ListN.{length, take, drop, set, getD, drop-of-length-le}
+use lib.ListN.{length, drop, getD, length-set, drop-of-length-le}
 use lib.Seq.{take-suc-set, drop-cons}
-use lib.Dec.{ltb}
-use borrow.Author.Tests.{ltb-true}
 use Rattle.lists.specs.Search.{position}
-use Rattle.lists.proofs.BoolLaws.{by-cases}
 use Rattle.literal.specs.declared.Literal.{Literal}
 use Rattle.literal.specs.declared.Env.{Env}
-use Rattle.literal.specs.Literal.{isGround, same}
+use Rattle.literal.specs.Literal.{isGround, same, opposite}
 use Rattle.belief.specs.declared.Beliefs.{Beliefs}
 use Rattle.belief.specs.declared.Change.{Change}
 use Rattle.belief.specs.declared.Applied.{Applied}
-use Rattle.belief.specs.Beliefs.{mostBeliefs, view, holds, replay}
-use Rattle.belief.specs.Table.{addBy, add, removeBy, remove}
-use Rattle.belief.proofs.TableSteps.{view-room}
-use Rattle.belief.proofs.BeliefLaws.{add-view, remove-view, remove-changed, replay-join}
+use Rattle.belief.specs.Beliefs.{view, holds, plus, minus, fits, replay}
+use Rattle.belief.specs.Table.{add, removeBy, remove}
+use Rattle.belief.proofs.BeliefLaws.{add-view, add-fitted, add-unfitted, add-changed, add-cleared, add-few, remove-view, replay-join}
 use Rattle.library.specs.declared.Action.{Action}
 use Rattle.library.specs.Plan.{noAction}
-use Rattle.model.specs.Changes.{alters, when, effective, asChange, effects}
+use Rattle.model.specs.Changes.{when, takesEffect, clearing, effective, asChange, effects}
+use Rattle.model.proofs.ChangeLaws.{replay-put}
 use Rattle.model.specs.Try.{isPossible}
 use Rattle.trials.specs.declared.changes.Altered.{Altered}
-use Rattle.trials.specs.Altered.{changesOf, untouched, Alters, Extends, Changed}
+use Rattle.trials.specs.Altered.{changesOf, untouched, removal, madeBy, notedOne, Alters, Extends, Changed}
 
 -- ---- One change
 
 module _ (b : Beliefs) (c : Change) where
-  pub change-open : isGround (c .literal) ≡ false → Changed b c (record { table = b; changed = false; fitted = false })
+  abbrev l : Literal
+  l = c .literal
+
+  pub change-open : isGround (c .literal) ≡ false → Changed b c (record { table = b; changed = false; fitted = false; cleared = false })
   unfolding isPossible effective replay
   change-open g = record { possible = rw g; effect = rw g; table = rw g; few = λ few. few }
 
   module _ (len : length (b .items) ≡ 64) (g : isGround (c .literal) ≡ true) where
-    removed-effect : c .removes ≡ true → effective (view b) c ≡ when (holds (view b) (c .literal)) c
-    unfolding effective alters
-    removed-effect r = rw (g, r)
+    -- ---- A removal
 
-    removed-fitted : remove b (c .literal) .fitted ≡ true
-    unfolding remove
-    removed-fitted = go (holds (view b) (c .literal))
+    removed-effect : c .removes ≡ true → effective (view b) c ≡ when (holds (view b) l) c
+    unfolding effective takesEffect clearing
+    removed-effect r =
+        ap₂ (λ (x y : Bool). cond (x && cond y (holds (view b) l) (not (holds (view b) l) && fits (view b) l)) (when (not y && holds (view b) (opposite l)) (removal (opposite l)) ++ (c ∷ [])) []) g r
+        ∙ go (holds (view b) l)
       where
-        go : (held : Bool) → removeBy held (position (same (c .literal)) (view b)) b .fitted ≡ true
+        go : (held : Bool) → cond held (c ∷ []) [] ≡ when held c
         go true = refl
         go false = refl
 
-    removed-few : b .count ≤ 64 → remove b (c .literal) .table .count ≤ 64
-    unfolding remove
-    removed-few few = go (holds (view b) (c .literal))
-      where
-        go : (held : Bool) → removeBy held (position (same (c .literal)) (view b)) b .table .count ≤ 64
-        go true = omega arith
-        go false = few
+    -- by whether it is held
+    module _ (r : c .removes ≡ true) where
+      removed-by : (held : Bool) → holds (view b) l ≡ held → (place : ℕ) → remove b l ≡ removeBy held place b → Changed b c (remove b l)
+      unfolding isPossible replay remove
+      removed-by held p place e = record {
+        possible = ap (λ (x : Applied). x .fitted) e ∙ fitted held ∙ rw (g, r);
+        effect = ap (madeBy c) e ∙ made held ∙ ap (λ (q : Bool). when q c) (sym p) ∙ sym (removed-effect r);
+        table = table held p ∙ ap (λ (q : Bool). replay (view b) (when q c)) (sym p) ∙ ap (replay (view b)) (sym (removed-effect r));
+        few = λ few. rw e (counted held few);
+      }
+        where
+          fitted : (q : Bool) → removeBy q place b .fitted ≡ true
+          fitted true = refl
+          fitted false = refl
 
-    removed-kept : holds (view b) (c .literal) ≡ false → remove b (c .literal) .table ≡ b
-    unfolding remove
-    removed-kept p = rw p
+          made : (q : Bool) → madeBy c (removeBy q place b) ≡ when q c
+          made true = refl
+          made false = refl
 
-    removed-table : c .removes ≡ true → view (remove b (c .literal) .table) ≡ replay (view b) (when (holds (view b) (c .literal)) c)
-    unfolding replay
-    removed-table r = by-cases (holds (view b) (c .literal))
-        (λ p. rw (p, r) (remove-view b len (c .literal)))
-        (λ p. rw p (ap view (removed-kept p)))
+          counted : (q : Bool) → b .count ≤ 64 → removeBy q place b .table .count ≤ 64
+          counted true few = omega arith
+          counted false few = few
 
-    pub change-removes : c .removes ≡ true → Changed b c (remove b (c .literal))
-    unfolding isPossible
-    change-removes r = record {
-      possible = removed-fitted ∙ rw (g, r);
-      effect = ap (λ (q : Bool). when q c) (remove-changed b len (c .literal)) ∙ sym (removed-effect r);
-      table = removed-table r ∙ ap (replay (view b)) (sym (removed-effect r));
-      few = removed-few;
-    }
+          kept : holds (view b) l ≡ false → remove b l .table ≡ b
+          kept q = rw q
 
-    added-effect : c .removes ≡ false → effective (view b) c ≡ when (not (holds (view b) (c .literal)) && ltb (b .count) mostBeliefs) c
-    unfolding effective alters
-    added-effect r = rw (g, r, view-room b len)
+          table : (q : Bool) → holds (view b) l ≡ q → view (remove b l .table) ≡ replay (view b) (when q c)
+          table true q = remove-view b len l ∙ ap (λ (x : Bool). cond x (minus (view b) l) (plus (view b) l)) (sym r)
+          table false q = ap view (kept q)
 
-    added-fitted : add b (c .literal) .fitted ≡ (holds (view b) (c .literal) || ltb (b .count) mostBeliefs)
-    unfolding add
-    added-fitted = go (holds (view b) (c .literal)) (ltb (b .count) mostBeliefs)
-      where
-        go : (held free : Bool) → addBy held free b (c .literal) .fitted ≡ (held || free)
-        go true free = refl
-        go false true = refl
-        go false false = refl
+      pub change-removes : Changed b c (remove b l)
+      unfolding remove
+      change-removes = removed-by (holds (view b) l) refl (position (same l) (view b)) refl
 
-    added-changed : add b (c .literal) .changed ≡ (not (holds (view b) (c .literal)) && ltb (b .count) mostBeliefs)
-    unfolding add
-    added-changed = go (holds (view b) (c .literal)) (ltb (b .count) mostBeliefs)
-      where
-        go : (held free : Bool) → addBy held free b (c .literal) .changed ≡ (not held && free)
-        go true free = refl
-        go false true = refl
-        go false false = refl
+    -- ---- An add
 
-    added-few : b .count ≤ 64 → add b (c .literal) .table .count ≤ 64
-    unfolding add
-    added-few few = go (holds (view b) (c .literal)) (ltb (b .count) mostBeliefs) refl
-      where
-        go : (held free : Bool) → ltb (b .count) mostBeliefs ≡ free → addBy held free b (c .literal) .table .count ≤ 64
-        go true free p = few
-        go false false p = few
-        go false true p = omega (arith, ltb-true (b .count) mostBeliefs p)
+    module _ (r : c .removes ≡ false) where
+      -- what it reports, by whether the literal is held and whether it fits
+      added-effect : (held room : Bool) → holds (view b) l ≡ held → fits (view b) l ≡ room
+          → effective (view b) c ≡ cond (not held && room) (clearing (view b) c ++ (c ∷ [])) []
+      unfolding effective takesEffect
+      added-effect held room p q = ap (λ (x : Bool). cond x (clearing (view b) c ++ (c ∷ [])) []) counts
+        where
+          counts : (isGround l && cond (c .removes) (holds (view b) l) (not (holds (view b) l) && fits (view b) l)) ≡ (not held && room)
+          counts = rw (g, r, p, q)
 
-    added-table : c .removes ≡ false
-        → view (add b (c .literal) .table) ≡ replay (view b) (when (not (holds (view b) (c .literal)) && ltb (b .count) mostBeliefs) c)
-    unfolding add replay
-    added-table r = go (holds (view b) (c .literal)) (ltb (b .count) mostBeliefs) refl refl
-      where
-        go : (held free : Bool) → holds (view b) (c .literal) ≡ held → ltb (b .count) mostBeliefs ≡ free
-            → view (addBy held free b (c .literal) .table) ≡ replay (view b) (when (not held && free) c)
-        go true free p q = refl
-        go false false p q = refl
-        go false true p q = rw r (rw (p, q) at (add-view b len (c .literal) (added-fitted ∙ rw (p, q))))
+      added-made : (held room : Bool) → holds (view b) l ≡ held → add b l .fitted ≡ room → madeBy c (add b l) ≡ cond (not held && room) (clearing (view b) c ++ (c ∷ [])) []
+      unfolding clearing
+      added-made held room p q = go held room (add-changed b len l ∙ ap₂ (λ (x y : Bool). x && not y) q p)
+        where
+          by : Bool → List Change
+          by x = cond x (when (add b l .cleared) (removal (opposite l)) ++ (c ∷ [])) []
 
-    pub change-adds : c .removes ≡ false → Changed b c (add b (c .literal))
-    unfolding isPossible
-    change-adds r = record {
-      possible = added-fitted ∙ rw (g, r, view-room b len);
-      effect = ap (λ (q : Bool). when q c) added-changed ∙ sym (added-effect r);
-      table = added-table r ∙ ap (replay (view b)) (sym (added-effect r));
-      few = added-few;
-    }
+          go : (held room : Bool) → add b l .changed ≡ (room && not held)
+              → madeBy c (add b l) ≡ cond (not held && room) (when (not (c .removes) && holds (view b) (opposite l)) (removal (opposite l)) ++ (c ∷ [])) []
+          go true true e = ap by e
+          go true false e = ap by e
+          go false false e = ap by e
+          go false true e =
+              ap by e
+              ∙ ap (λ (x : Bool). when x (removal (opposite l)) ++ (c ∷ [])) (add-cleared b len l ∙ ap (λ (x : Bool). x && holds (view b) (opposite l)) e ∙ ap (λ (x : Bool). not x && holds (view b) (opposite l)) (sym r))
+
+      added-table : (held room : Bool) → holds (view b) l ≡ held → add b l .fitted ≡ room
+          → view (add b l .table) ≡ replay (view b) (cond (not held && room) (clearing (view b) c ++ (c ∷ [])) [])
+      unfolding replay add
+      added-table true room p q = ap view (stays p)
+        where
+          stays : holds (view b) l ≡ true → add b l .table ≡ b
+          stays e = rw e
+      added-table false false p q = ap view (add-unfitted b len l q)
+      added-table false true p q = add-view b len l q ∙ sym (replay-put (view b) c r p)
+
+      pub change-adds : Changed b c (add b l)
+      unfolding isPossible
+      change-adds =
+          let held = holds (view b) l in
+          let room = add b l .fitted in
+          let effect = added-effect held room refl (sym (add-fitted b len l)) in
+          record {
+            possible = add-fitted b len l ∙ rw (g, r);
+            effect = added-made held room refl refl ∙ sym effect;
+            table = added-table held room refl refl ∙ ap (replay (view b)) (sym effect);
+            few = add-few b len l;
+          }
 
 -- ---- A change noted
 
-module _ (t : Altered) (c : Change) (applied : Applied) (h : Changed (t .table) c applied) (room : t .count < 4) where
-  pub noted-none : applied .changed ≡ false
-      → Extends t (effective (view (t .table)) c) (record { table = applied .table; changes = t .changes; count = t .count })
-  noted-none p =
-      let none : [] ≡ effective (view (t .table)) c = rw p at (h .effect) in
-      record {
-        noted = sym (append-nil (changesOf t)) ∙ ap (λ (cs : List Change). changesOf t ++ cs) none;
-        table = h .table;
-        few = h .few;
-        count = omega arith;
-      }
+-- one change behind those noted
+noted-more : (t : Altered) (c : Change) → length (t .changes) ≡ 8 → t .count < 8 → changesOf (notedOne t c) ≡ changesOf t ++ (c ∷ [])
+noted-more t c len room =
+    let now : min (t .count) 8 ≡ t .count = omega arith in
+    let next : min (t .count + 1) 8 ≡ suc (t .count) = omega arith in
+    rw (next, now) (take-suc-set (t .changes) (t .count) c (omega arith))
 
-  pub noted-one : length (t .changes) ≡ 4 → applied .changed ≡ true
-      → Extends t (effective (view (t .table)) c) (record { table = applied .table; changes = set (t .changes) (t .count) c; count = t .count + 1 })
-  noted-one len p =
-      let one : (c ∷ []) ≡ effective (view (t .table)) c = rw p at (h .effect) in
-      let now : min (t .count) 4 ≡ t .count = omega arith in
-      let next : min (t .count + 1) 4 ≡ suc (t .count) = omega arith in
-      let more : take (min (t .count + 1) 4) (set (t .changes) (t .count) c) ≡ take (min (t .count) 4) (t .changes) ++ (c ∷ [])
-      = rw (next, now) (take-suc-set (t .changes) (t .count) c (omega arith)) in
-      record {
-        noted = more ∙ ap (λ (cs : List Change). changesOf t ++ cs) one;
-        table = h .table;
-        few = h .few;
-        count = omega arith;
-      }
+module _ (t : Altered) (c : Change) (applied : Applied) (h : Changed (t .table) c applied) (len : length (t .changes) ≡ 8) (room : t .count + 2 ≤ 8) where
+  -- with the table after the change
+  abbrev moved : Altered
+  moved = record { table = applied .table; changes = t .changes; count = t .count }
+
+  extends : (r : Altered) (changes : List Change) → r .table ≡ applied .table → changes ≡ madeBy c applied → changesOf r ≡ changesOf t ++ changes → r .count ≤ t .count + 2
+      → Extends t (effective (view (t .table)) c) r
+  extends r changes e m n k = record {
+    noted = n ∙ ap (λ (cs : List Change). changesOf t ++ cs) (m ∙ h .effect);
+    table = ap view e ∙ h .table;
+    few = λ few. rw e (h .few few);
+    count = k;
+  }
+
+  pub noted-none : applied .changed ≡ false → Extends t (effective (view (t .table)) c) moved
+  noted-none p = extends moved [] refl (rw p) (sym (append-nil (changesOf t))) (omega arith)
+
+  pub noted-one : applied .changed ≡ true → applied .cleared ≡ false → (r : Altered) → r ≡ notedOne moved c → Extends t (effective (view (t .table)) c) r
+  noted-one p q r e = rw e (extends (notedOne moved c) (c ∷ []) refl (rw (p, q)) (noted-more moved c len (omega arith)) (omega arith))
+
+  pub noted-two : applied .changed ≡ true → applied .cleared ≡ true → (first r : Altered) → first ≡ notedOne moved (removal (opposite (c .literal))) → r ≡ notedOne first c
+      → Extends t (effective (view (t .table)) c) r
+  noted-two p q first r e f =
+      let gone = removal (opposite (c .literal)) in
+      let one = notedOne moved gone in
+      let more : length (one .changes) ≡ 8 = length-set (t .changes) (t .count) gone ∙ len in
+      rw (f, e) (extends (notedOne one c) (gone ∷ c ∷ []) refl (rw (p, q))
+      (noted-more one c more (omega arith) ∙ ap (λ (cs : List Change). cs ++ (c ∷ [])) (noted-more moved gone len (omega arith)) ∙ append-assoc (changesOf t) (gone ∷ []) (c ∷ []))
+      (omega arith))
 
 -- the first change
 pub first-change : (b : Beliefs) (t a : Altered) (c : Change) → t ≡ untouched b → Extends t (effective (view (t .table)) c) a

@@ -1,9 +1,11 @@
 -- What a list of actions and a change make of the belief table (document 01, "The three calls": effective changes, action lists).
 use Prim.Native.Nat.{min, _+_, _≤_}
 use mathlib.Core.Path.{_≡_}
-use mathlib.Core.Bool.{Bool, false, cond}
+use mathlib.Core.Bool.{Bool, true, false, cond}
 use mathlib.Core.List.{List, [], _∷_, _++_}
-use lib.ListN.{take}
+use lib.ListN.{take, set, replicate}
+use Rattle.literal.specs.declared.Literal.{Literal}
+use Rattle.literal.specs.Literal.{opposite}
 use Rattle.belief.specs.declared.Beliefs.{Beliefs}
 use Rattle.belief.specs.declared.Change.{Change}
 use Rattle.belief.specs.declared.Applied.{Applied}
@@ -25,7 +27,11 @@ changesOf a = take (min (a .count) mostChanges) (a .changes)
 
 -- a table with no change yet
 abbrev pub untouched : Beliefs → Altered
-untouched beliefs = record { table = beliefs; changes = noChange ∷ noChange ∷ noChange ∷ noChange ∷ []; count = 0 }
+untouched beliefs = record { table = beliefs; changes = replicate mostChanges noChange; count = 0 }
+
+-- one change more is noted
+abbrev pub notedOne : Altered → Change → Altered
+notedOne t c = record { table = t .table; changes = set (t .changes) (t .count) c; count = t .count + 1 }
 
 -- the table is that of the beliefs after the changes, and those are the changes noted; a count that fits still does
 pub record Alters (beliefs : Beliefs) (changes : List Change) (a : Altered) : Type 0 where
@@ -38,12 +44,20 @@ pub record Extends (t : Altered) (changes : List Change) (a : Altered) : Type 0 
   pub noted : changesOf a ≡ changesOf t ++ changes
   pub table : view (a .table) ≡ replay (view (t .table)) changes
   pub few : t .table .count ≤ mostBeliefs → a .table .count ≤ mostBeliefs
-  pub count : a .count ≤ t .count + 1
+  pub count : a .count ≤ t .count + 2
+
+-- the removal of a literal
+abbrev pub removal : Literal → Change
+removal l = record { removes = true; literal = l }
+
+-- the changes that an add or a removal made: the change itself, behind that of the opposite
+abbrev pub madeBy : Change → Applied → List Change
+madeBy c r = cond (r .changed) (when (r .cleared) (removal (opposite (c .literal))) ++ (c ∷ [])) []
 
 -- one change: whether it was possible, whether it took effect, and the table after it
 pub record Changed (beliefs : Beliefs) (c : Change) (r : Applied) : Type 0 where
   pub possible : r .fitted ≡ isPossible (view beliefs) c
-  pub effect : when (r .changed) c ≡ effective (view beliefs) c
+  pub effect : madeBy c r ≡ effective (view beliefs) c
   pub table : view (r .table) ≡ replay (view beliefs) (effective (view beliefs) c)
   pub few : beliefs .count ≤ mostBeliefs → r .table .count ≤ mostBeliefs
 

@@ -1,13 +1,13 @@
 // Belief changes: one change, and the actions of a plan's success or failure list.
 ghost use mathlib.Core.Path.{_≡_};
-ghost use Prim.Native.Nat.{_<_, min};
+ghost use Prim.Native.Nat.{_+_, _<_, _≤_, min};
 ghost use lib.ListN.{length, take, getD};
 ghost use Rattle.belief.specs.Beliefs.{view};
 ghost use Rattle.library.specs.Layout.{planOf};
 ghost use Rattle.library.specs.Plan.{noAction};
-ghost use Rattle.model.specs.State.{mostChanges};
+ghost use Rattle.model.specs.State.{mostActions, mostChanges};
 ghost use Rattle.model.specs.Changes.{changeOf, effective, asChange, effects};
-ghost use Rattle.trials.specs.Altered.{noChange, untouched, Alters, Extends, Changed, listOf};
+ghost use Rattle.trials.specs.Altered.{noChange, untouched, notedOne, Alters, Extends, Changed, listOf};
 use belief::Applied;
 use belief::Beliefs;
 use belief::Change;
@@ -15,6 +15,7 @@ use library::Action;
 use library::plan;
 use literal::Env;
 use literal::Literal;
+use model::MOST_ACTIONS;
 use model::MOST_CHANGES;
 
 // A kind of change: 0 adds, 1 removes.
@@ -46,6 +47,7 @@ pub(crate) fn with_change(b: Beliefs, c: Change) -> Applied
             table: b,
             changed: false,
             fitted: false,
+            cleared: false,
         };
     }
     if c.removes {
@@ -77,20 +79,39 @@ pub fn unaltered(b: Beliefs) -> Altered
     }
 }
 
-// The table after the change, which is noted if it took effect.
-pub(crate) fn noted(t: Altered, c: Change, applied: Applied) -> Altered
-    requires { ⌜ (t .count < mostChanges) × Changed (t .table) c applied ⌝ }
-    ensures { λ r. ⌜ Extends t (effective (view (t .table)) c) r ⌝ }
+// One change more is noted.
+fn with_noted(t: Altered, c: Change) -> Altered
+    requires { ⌜ t .count < mostChanges ⌝ }
+    ensures { λ r. ⌜ r ≡ notedOne t c ⌝ }
 {
-    let table = applied.table;
     let n = t.count;
-    let mut next = Altered { table: table, ..t };
-    if !applied.changed {
-        return next;
-    }
+    let mut next = t;
     next.changes[n] = c;
     next.count = n + 1;
     next
+}
+
+// The table after the change, which is noted if it took effect, behind the removal of an add's opposite.
+pub(crate) fn noted(t: Altered, c: Change, applied: Applied) -> Altered
+    requires { ⌜ (t .count + 2 ≤ mostChanges) × Changed (t .table) c applied ⌝ }
+    ensures { λ r. ⌜ Extends t (effective (view (t .table)) c) r ⌝ }
+{
+    let table = applied.table;
+    let next = Altered { table: table, ..t };
+    if !applied.changed {
+        return next;
+    }
+    if !applied.cleared {
+        return with_noted(next, c);
+    }
+    let l = c.literal;
+    let other = literal::opposite_of(l);
+    let gone = Change {
+        removes: true,
+        literal: other,
+    };
+    let first = with_noted(next, gone);
+    with_noted(first, c)
 }
 
 // One change.
@@ -104,7 +125,7 @@ pub fn one_change(b: Beliefs, c: Change) -> Altered
 
 // One action more.
 fn with_action(t: Altered, env: Env, action: Action) -> Altered
-    requires { ⌜ t .count < mostChanges ⌝ }
+    requires { ⌜ t .count + 2 ≤ mostChanges ⌝ }
     ensures { λ r. ⌜ Extends t (effective (view (t .table)) (asChange env action)) r ⌝ }
 {
     let l = action.literal;
@@ -135,18 +156,18 @@ fn list_action(library: &[u8], plan: usize, succeeds: bool, place: usize) -> Act
 
 // How many actions of a list run: all that there is room for.
 fn list_count(library: &[u8], plan: usize, succeeds: bool) -> usize
-    ensures { λ r. ⌜ r ≡ min (length (listOf succeeds (planOf (now (library .entry)) plan))) mostChanges ⌝ }
+    ensures { λ r. ⌜ r ≡ min (length (listOf succeeds (planOf (now (library .entry)) plan))) mostActions ⌝ }
 {
     let n = list_length(library, plan, succeeds) as usize;
-    if n < MOST_CHANGES {
+    if n < MOST_ACTIONS {
         return n;
     }
-    MOST_CHANGES
+    MOST_ACTIONS
 }
 
 // A plan's success or failure list runs, under an environment.
 pub fn list_run(library: &[u8], plan: usize, succeeds: bool, env: Env, b: Beliefs) -> Altered
-    ensures { λ r. ⌜ Alters b (effects (view b) env (take mostChanges (listOf succeeds (planOf (now (library .entry)) plan)))) r ⌝ }
+    ensures { λ r. ⌜ Alters b (effects (view b) env (take mostActions (listOf succeeds (planOf (now (library .entry)) plan)))) r ⌝ }
 {
     let n = list_count(library, plan, succeeds);
     let mut t = unaltered(b);

@@ -18,6 +18,8 @@ pub const DEPTHS: &[&str] = &[
     "T of a held belief",
     "T of an absent belief removed",
     "T changes",
+    "T takes out an opposite",
+    "T takes out an opposite at 64",
     "M after a failure",
     "M that went back",
     "M with a bound context",
@@ -27,6 +29,8 @@ pub const DEPTHS: &[&str] = &[
     "I past a pending event",
     "S add",
     "S add held",
+    "S add takes out an opposite",
+    "S add takes out an opposite at 64",
     "S remove",
     "S remove absent",
     "S achieve held",
@@ -51,6 +55,9 @@ pub const DEPTHS: &[&str] = &[
     "F of a goal",
     "E of a goal",
     "list changes",
+    "list takes out an opposite",
+    "list takes out an opposite at 64",
+    "over four changes",
     "list action not ground",
     "list add full",
     "list action without effect",
@@ -91,6 +98,10 @@ impl Watch {
             tops: agent.stacks().iter().filter_map(top).collect(),
             external: agent.queue().iter().filter(|event| is_external(event)).count(),
         }
+    }
+
+    fn is_full(&self) -> bool {
+        self.beliefs.facts().len() == MOST_BELIEFS
     }
 
     fn top(&self, id: u16) -> Option<&(Instance, usize)> {
@@ -159,7 +170,7 @@ impl Coverage {
                 self.note(if kind_is_good { "X 5 by literal" } else { "X 5 by kind" });
                 self.note_if(full, "X 5 at a full queue");
             }
-            Refusal::QueueFull => self.note_if(before.beliefs.facts().len() == MOST_BELIEFS, "X 7 at full beliefs"),
+            Refusal::QueueFull => self.note_if(before.is_full(), "X 7 at full beliefs"),
             Refusal::NotWaiting => {
                 let id = line.split(|byte| *byte == b' ').nth(1).and_then(|id| std::str::from_utf8(id).ok()?.parse().ok());
                 let live = id.is_some_and(|id| before.top(id).is_some());
@@ -173,7 +184,7 @@ impl Coverage {
     fn answer(&mut self, before: &Watch, line: &[u8], answer: &Answer, after: &Agent) {
         let cycle = line == b"C";
         match answer.deed {
-            Deed::Taken(_) => self.taken(before, line, !answer.changes.is_empty()),
+            Deed::Taken(_) => self.taken(before, line, answer.changes.len()),
             Deed::Idle => {
                 self.note("I");
                 self.note_if(after.queue().iter().any(|event| !event.served), "I past a pending event");
@@ -190,6 +201,9 @@ impl Coverage {
             Deed::Stepped(place, _) => {
                 self.note("S");
                 self.note(if cycle { stepped(before, place, !answer.changes.is_empty(), after) } else { "S outcome" });
+                let turned = answer.changes.len() == 2;
+                self.note_if(turned, "S add takes out an opposite");
+                self.note_if(turned && before.is_full(), "S add takes out an opposite at 64");
             }
             Deed::Missed(place) => {
                 self.note("B");
@@ -204,10 +218,14 @@ impl Coverage {
             Deed::Succeeded(id) => self.ended(before, id, true, after),
             Deed::Failed(id) => self.ended(before, id, false, after),
         }
+        self.note_if(answer.changes.len() > 4, "over four changes");
     }
 
-    fn taken(&mut self, before: &Watch, line: &[u8], changed: bool) {
+    fn taken(&mut self, before: &Watch, line: &[u8], changes: usize) {
         self.note("T");
+        let changed = changes > 0;
+        self.note_if(changes == 2, "T takes out an opposite");
+        self.note_if(changes == 2 && before.is_full(), "T takes out an opposite at 64");
         self.note_if(changed, "T changes");
         self.note_if(!changed && line.starts_with(b"P 0 "), "T of a held belief");
         self.note_if(!changed && line.starts_with(b"P 1 "), "T of an absent belief removed");
@@ -244,10 +262,16 @@ impl Coverage {
                 self.note("list action not ground");
                 continue;
             };
-            let effect = if matches!(action, Action::Add(_)) { beliefs.add(fact) } else { Ok(beliefs.remove(fact)) };
-            self.note(match effect {
-                Ok(Some(_)) => "list changes",
-                Ok(None) => "list action without effect",
+            let full = beliefs.facts().len() == MOST_BELIEFS;
+            let effect = match action {
+                Action::Add(_) => beliefs.add(fact),
+                Action::Remove(_) => Ok(beliefs.remove(fact).into_iter().collect()),
+            };
+            self.note(match effect.as_deref() {
+                Ok([]) => "list action without effect",
+                Ok([_]) => "list changes",
+                Ok(_) if full => "list takes out an opposite at 64",
+                Ok(_) => "list takes out an opposite",
                 Err(_) => "list add full",
             });
         }

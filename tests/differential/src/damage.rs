@@ -1,6 +1,6 @@
 //! Damaged libraries, one kind at a time, each with the refusal that it is to meet.
 
-use crate::draft::{Branch, EXTERNAL, Library, NEGATIVE, Plan, V0};
+use crate::draft::{Branch, EXTERNAL, Library, NEGATIVE, Plan, V0, opposite};
 use crate::random::Random;
 
 /// Damage to a draft, before it is written.
@@ -20,6 +20,14 @@ pub const TO_DRAFT: &[(&str, u16, OnDraft)] = &[
             library.beliefs.pop();
         }
         let place = random.between(1, library.beliefs.len());
+        library.beliefs.insert(place, first);
+    }),
+    ("belief whose opposite stands", 3, |random, library| {
+        let first = opposite(library.beliefs[0]);
+        if library.beliefs.len() == 64 {
+            library.beliefs.pop();
+        }
+        let place = random.between(0, library.beliefs.len());
         library.beliefs.insert(place, first);
     }),
     ("trigger kind over 4", 4, |random, library| some_plan(random, library).kind = random.between(5, 65_535) as u16),

@@ -5,6 +5,12 @@ pub type Literal = [u16; 4];
 pub type Situation = Vec<Vec<Literal>>;
 
 pub const NEGATIVE: u16 = 32_768;
+
+/// The literal with the other sign.
+pub fn opposite([symbol, first, second, third]: Literal) -> Literal {
+    [symbol ^ NEGATIVE, first, second, third]
+}
+
 /// Variable V0, as stored.
 pub const V0: u16 = 65_528;
 

@@ -1,7 +1,7 @@
 //! Journals for a valid library, written while the reference runs along, so that they know who waits.
 
 use crate::coverage::{Coverage, Watch};
-use crate::draft::{Library, Literal, V0, is_ground};
+use crate::draft::{Library, Literal, V0, is_ground, opposite};
 use crate::plans::Words;
 use crate::random::Random;
 use crate::unreadable;
@@ -128,11 +128,12 @@ impl<'a> Writer<'a> {
 
     fn report(&mut self) {
         let kind = self.random.below(3) as u16;
-        let (kind, literal) = match self.random.below(10) {
+        let (kind, literal) = match self.random.below(11) {
             0..6 => self.triggering().unwrap_or((kind, self.words.ground(self.random, &self.words.facts))),
             6 => (kind, self.held().unwrap_or([1, 1, 0, 0])),
             7 => (kind, self.words.ground(self.random, &self.words.told)),
-            8 => (0, [self.words.facts[0], self.random.between(1, 90) as u16, 0, 0]),
+            8 => (0, opposite(self.held().unwrap_or([1, 1, 0, 0]))),
+            9 => (0, [self.words.facts[0], self.random.between(1, 90) as u16, 0, 0]),
             _ => (kind, self.words.ground(self.random, &self.words.facts)),
         };
         self.report_of(kind, &literal);

@@ -1,6 +1,6 @@
 //! Valid libraries from a seed.
 
-use crate::draft::{ACHIEVE, ADD, ADDED, Branch, EXTERNAL, Library, Literal, NEGATIVE, Plan, QUERY, Situation, V0};
+use crate::draft::{ACHIEVE, ADD, ADDED, Branch, EXTERNAL, Library, Literal, NEGATIVE, Plan, QUERY, Situation, V0, opposite};
 use crate::random::Random;
 
 /// What a library leans towards.
@@ -153,7 +153,7 @@ fn beliefs(random: &mut Random, words: &Words, shape: &Shape) -> Vec<Literal> {
         if extra > 100 {
             literal[3] = 100 + extra;
         }
-        if !beliefs.contains(&literal) {
+        if !beliefs.contains(&literal) && !beliefs.contains(&opposite(literal)) {
             beliefs.push(literal);
         }
     }
@@ -164,7 +164,8 @@ fn beliefs(random: &mut Random, words: &Words, shape: &Shape) -> Vec<Literal> {
 fn tower(random: &mut Random, words: &Words) -> Vec<Plan> {
     let height = random.between(5, 11) as u16;
     let goal = |floor: u16| [100 + floor, V0, 0, 0];
-    let kind = |floor: u16| if floor % 3 == 1 { QUERY } else { ACHIEVE };
+    let phase = random.below(3) as u16;
+    let kind = |floor: u16| if (floor + phase) % 3 == 1 { QUERY } else { ACHIEVE };
     let mut plans = vec![];
     for floor in 0..=height {
         let trigger = if floor == 0 { (random.below(3) as u16, [words.facts[0], V0, 0, 0]) } else { (kind(floor), goal(floor)) };
@@ -187,11 +188,11 @@ fn tower(random: &mut Random, words: &Words) -> Vec<Plan> {
     plans
 }
 
-/// A plan that adds ever new beliefs, one for each number that is reported.
+/// A plan that adds ever new beliefs, some for each number that is reported, and their opposites after them.
 fn filler(words: &Words) -> Plan {
     let literal = |term: u16| [words.facts[0], V0, V0, term];
     Plan {
-        success: vec![(ADD, literal(3)), (ADD, literal(4))],
+        success: [literal(3), literal(4), opposite(literal(3)), opposite(literal(4))].map(|literal| (ADD, literal)).to_vec(),
         ..Plan::simple(ADDED, [words.facts[0], V0, 0, 0]).path(&[(ADD, literal(1)), (ADD, literal(2))])
     }
 }
@@ -230,9 +231,19 @@ fn situation(random: &mut Random, words: &Words, plain: usize) -> Situation {
     (0..alternatives).map(|_| literals(random)).collect()
 }
 
+/// Actions on facts; now and then one on the opposite of the one before it, or adds that turn one belief over and over.
 fn actions(random: &mut Random, words: &Words, most: usize) -> Vec<(u16, Literal)> {
-    let action = |random: &mut Random| (random.below(2) as u16, words.bound(random, &words.facts));
-    (0..random.between(0, most)).map(|_| action(random)).collect()
+    if random.percent(6) {
+        let literal = words.bound(random, &words.facts);
+        return [literal, opposite(literal), literal, opposite(literal)].map(|literal| (ADD, literal)).to_vec();
+    }
+    let mut actions: Vec<(u16, Literal)> = vec![];
+    for _ in 0..random.between(0, most) {
+        let turned = actions.last().filter(|_| random.percent(25)).map(|(_, literal)| opposite(*literal));
+        let literal = turned.unwrap_or_else(|| words.bound(random, &words.facts));
+        actions.push((random.below(2) as u16, literal));
+    }
+    actions
 }
 
 /// A tree of states, each hung below an earlier one that has room.

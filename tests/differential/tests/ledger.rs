@@ -78,3 +78,29 @@ fn generated_journals_are_accepted_and_tampered_ones_refused() {
         }
     }
 }
+
+/// A report, a branch and a list that turn a belief over, and what they may not say of it.
+#[test]
+fn an_opposite_is_taken_out_before_the_add_and_by_the_same_action() {
+    let calls = "P 0 -1 5 0 0\nC\nC\nC\n";
+    let answers = [
+        "T 1 r +1 5 0 0 a -1 5 0 0",
+        "M 1 0 e 1",
+        "S 1 0 0 1 r -1 5 0 0 a +1 5 0 0",
+        "E 1 a +2 5 0 0 r +2 5 0 0 a -2 5 0 0 r -2 5 0 0 a +2 5 0 0 a +3 5 0 0",
+    ];
+    let checked = |answers: &[&str]| check(vec![[1, 5, 0, 0]], calls.as_bytes(), answers.join("\n").as_bytes());
+    assert_eq!(checked(&answers), Ok(vec![[1, 5, 0, 0], [2, 5, 0, 0], [3, 5, 0, 0]]));
+    let tampered = [
+        (0, "T 1 a -1 5 0 0"),
+        (0, "T 1 a -1 5 0 0 r +1 5 0 0"),
+        (2, "S 1 0 0 1 a +1 5 0 0"),
+        (2, "S 1 0 0 1 r -1 5 0 0 a +2 5 0 0"),
+        (3, "E 1 a +2 5 0 0 r +2 5 0 0 a -2 5 0 0 a +3 5 0 0 a +4 5 0 0 a +5 5 0 0"),
+    ];
+    for (place, line) in tampered {
+        let mut answers = answers;
+        answers[place] = line;
+        assert!(checked(&answers).is_err(), "{line} in line {}", place + 1);
+    }
+}

@@ -7,7 +7,7 @@ use borrow.Author.Tests.{not-true, not-false}
 use lib.ListN.{length, take, drop, length-take}
 use Rattle.lists.proofs.ArrayLaws.{length-mapped}
 use Rattle.belief.specs.Beliefs.{areSound}
-use Rattle.belief.proofs.TableSteps.{sound-variable, sound-repeated, sound-next, sound-end}
+use Rattle.belief.proofs.TableSteps.{sound-variable, sound-repeated, sound-opposed, sound-next, sound-end}
 use Rattle.belief.proofs.are_beliefs.Statement.{statement}
 use Rattle.belief.proofs.are_beliefs.Tie as tie
 
@@ -50,21 +50,37 @@ returns-2 c =
     sound-repeated (a .t1 .items) (a .n) (s .i) _ (omega arith) (omega arith) (s .inv .1) (sym ((c .before .before .before .is-ground) .ensures) ∙ not-false _ ((c .before .before .if1) .left))
     ((c .before .place-from) .result) ((c .before .place-from) .ensures) ((c .if2) .taken)
 
+opposite-of-requires : tie.Need-opposite-of-requires Inv-loop μ-loop
+opposite-of-requires c κs = search needs
+
+place-from-requires-2 : tie.Need-place-from-requires-2 Inv-loop μ-loop
+place-from-requires-2 c κs = search needs
+
+returns-3 : tie.Need-returns-3 Inv-loop μ-loop
+returns-3 c =
+    let a = (c .before .before .before .before .before .before .before .before .before .before .args) in
+    let s = (c .before .before .before .before .before .before .before .before .before .loop) in
+    let len : length (a .t1 .items) ≡ 64 = search (needs, length-mapped) in
+    sound-opposed (a .t1 .items) (a .n) (s .i) _ (omega arith) (omega arith) (s .inv .1) (sym ((c .before .before .before .before .before .before .is-ground) .ensures) ∙ not-false _ ((c .before .before .before .before .before .if1) .left))
+    ((c .before .before .before .before .place-from) .result) ((c .before .before .before .before .place-from) .ensures) ((c .before .before .before .if2) .left)
+    ((c .before .place-from2) .result) (rw ((c .before .before .opposite-of) .ensures) at ((c .before .place-from2) .ensures)) ((c .if3) .taken)
+
 loop-less : tie.Need-loop-less Inv-loop μ-loop
 loop-less c = search needs
 
 loop-again : tie.Need-loop-again Inv-loop μ-loop
 loop-again c =
-    let a = (c .before .before .before .before .before .before .before .args) in
-    let s = (c .before .before .before .before .before .before .loop) in
+    let a = (c .before .before .before .before .before .before .before .before .before .before .args) in
+    let s = (c .before .before .before .before .before .before .before .before .before .loop) in
     let len : length (a .t1 .items) ≡ 64 = search (needs, length-mapped) in (
       omega arith,
-      sound-next (a .t1 .items) (a .n) (s .i) _ (omega arith) (omega arith) (s .inv .1) (sym ((c .before .before .before .is-ground) .ensures) ∙ not-false _ ((c .before .before .if1) .left))
-          ((c .before .place-from) .result) ((c .before .place-from) .ensures) ((c .if2) .left),
+      sound-next (a .t1 .items) (a .n) (s .i) _ (omega arith) (omega arith) (s .inv .1) (sym ((c .before .before .before .before .before .before .is-ground) .ensures) ∙ not-false _ ((c .before .before .before .before .before .if1) .left))
+          ((c .before .before .before .before .place-from) .result) ((c .before .before .before .before .place-from) .ensures) ((c .before .before .before .if2) .left)
+          ((c .before .place-from2) .result) (rw ((c .before .before .opposite-of) .ensures) at ((c .before .place-from2) .ensures)) ((c .if3) .left),
     )
 
-returns-3 : tie.Need-returns-3 Inv-loop μ-loop
-returns-3 c =
+returns-4 : tie.Need-returns-4 Inv-loop μ-loop
+returns-4 c =
     let a = (c .before .before .args) in
     let s = (c .before .loop) in
     sound-end (take (a .n) (a .t1 .items)) (s .i) (simp length-take (omega arith)) (s .inv .1)
@@ -83,6 +99,9 @@ are-beliefs-spec =
     returns
     place-from-requires
     returns-2
+    opposite-of-requires
+    place-from-requires-2
+    returns-3
     loop-less
     loop-again
-    returns-3)
+    returns-4)

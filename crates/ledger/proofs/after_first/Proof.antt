@@ -75,10 +75,10 @@ R = T.the-row
 
 -- an array of changes
 abbrev arr : Ty
-arr = tyArray T′.mir 4
+arr = tyArray T′.mir 8
 
 abbrev Arr : RattleType
-Arr = Array R 4
+Arr = Array R 8
 
 abbrev slice : Ty
 slice = sliceTy (tyRef erased imm (pointee (R .written)))
@@ -108,19 +108,19 @@ module _ {M : Type 1} (𝓤 : URA M) (H : Heap 𝓤) (A : Atoms 𝓤) (W : Given
   unfolding partOf
   apart w is =
       qed W (‵ (fat fullShare arr l 0 w) ∷ []) ∵ use1 W (‵ (cellAt fullShare (Arr .mir) (w ∷ []) l 0)) (W .laws .at-raw fullShare arr l 0 w) $
-      owned ! Arr (Is Arr) (array-makes 𝓤 H A W R (LL.makes T.the-type T′.the-plain 𝓤 H A) 4) xs (w ∷ []) is $ move ! (1 ∷ 0 ∷ []) $ fjoin ! $
+      owned ! Arr (Is Arr) (array-makes 𝓤 H A W R (LL.makes T.the-type T′.the-plain 𝓤 H A) 8) xs (w ∷ []) is $ move ! (1 ∷ 0 ∷ []) $ fjoin ! $
       fpack ! (List Val) (λ vs. fsep (cellAt fullShare (Arr .mir) vs l 0) (Arr .own xs vs)) (w ∷ []) $
-      use1 W (‵ (arr-parts (shares R) 4 .part fullShare xs l 0)) (array-apart 𝓤 H A W R fullShare tt 4 xs l 0) $ fsplit ! $ drop ! $
+      use1 W (‵ (arr-parts (shares R) 8 .part fullShare xs l 0)) (array-apart 𝓤 H A W R fullShare tt 8 xs l 0) $ fsplit ! $ drop ! $
       use1 W (‵ (cells (mem R) xs l 0)) (whole-in 𝓤 H A W R xs l 0) $ rewrite ! 0 (λ (zs : List Change). ‵ (cells (mem R) zs l 0)) (sym (take-append-drop k xs)) refl $
       by ! (cut-app 𝓤 H A (mem R) (take k xs) (dropped k xs) l 0)
 
-  together : length xs ≡ 4 → ent 𝓤 (sep 𝓤 (sem 𝓤 H A Front) (sem 𝓤 H A Back)) (H .room arr l 0)
+  together : length xs ≡ 8 → ent 𝓤 (sep 𝓤 (sem 𝓤 H A Front) (sem 𝓤 H A Back)) (H .room arr l 0)
   unfolding partOf
   together len =
       qed W (‵ Front ∷ ‵ Back ∷ []) ∵ use2 W (‵ (cells (mem R) (take k xs ++ dropped k xs) l 0)) (join-app 𝓤 H A (mem R) (take k xs) (dropped k xs) l 0) $
       rewrite ! 0 (λ (zs : List Change). ‵ (cells (mem R) zs l 0)) (take-append-drop k xs) refl $ use1 W (‵ (row R fullShare xs l 0)) (whole-out 𝓤 H A W R xs l 0) $
-      feqI ! ℕ (length xs) 4 len $ fjoin ! $ use1 W (‵ (partAt Arr fullShare xs l 0)) (array-whole 𝓤 H A W R fullShare 4 xs l 0) $ fpick ! (λ vs. fsplit ! $
-      spelt ! Arr (Is Arr) (shows 𝓤 H A Arr) (array-vals vals) (array-tells R vals (LL.tells T.the-type T′.the-laws) 4) fullShare xs vs l 0 $ move ! (1 ∷ []) $ drop ! $
+      feqI ! ℕ (length xs) 8 len $ fjoin ! $ use1 W (‵ (partAt Arr fullShare xs l 0)) (array-whole 𝓤 H A W R fullShare 8 xs l 0) $ fpick ! (λ vs. fsplit ! $
+      spelt ! Arr (Is Arr) (shows 𝓤 H A Arr) (array-vals vals) (array-tells R vals (LL.tells T.the-type T′.the-laws) 8) fullShare xs vs l 0 $ move ! (1 ∷ []) $ drop ! $
       use1 W (‵ (fat fullShare arr l 0 (valA xs))) (W .laws .raw-at fullShare arr l 0 (valA xs)) $ by ! (W .laws .at-room arr l 0 (valA xs)))
 
 -- ---- The walk
@@ -143,7 +143,7 @@ module _ {M : Type 1} (𝓤 : URA M) (H : Heap 𝓤) (A : Atoms 𝓤) (W : Given
   exits r w is e =
       qed W [] ∵ suffices ! _ (ends-at 𝓤 H A after.ended stayed (after.clauses 𝓤 H A mem′ run) W ((tt, tt, tt, (x, (xs, (n, tt))), at′), tt) w r (tt, (tt, (tt, tt))) (tt, (tt, (tt, tt)))) $ says ! e $
       owned ! X.the-row (Is X.the-row) (LL.makes X.the-type X′.the-plain 𝓤 H A) r (w ∷ []) is $ nothing ! $ owned ! usize (Is usize) (uint-makes 𝓤 H A W w64) n (vint w64 n ∷ []) is-n $ fjoin ! $
-      owned ! Arr (Is Arr) (array-makes 𝓤 H A W R (LL.makes T.the-type T′.the-plain 𝓤 H A) 4) xs (valA xs ∷ []) is-xs $ fjoin ! $
+      owned ! Arr (Is Arr) (array-makes 𝓤 H A W R (LL.makes T.the-type T′.the-plain 𝓤 H A) 8) xs (valA xs ∷ []) is-xs $ fjoin ! $
       owned ! B.the-row (Is B.the-row) (LL.makes B.the-type B′.the-plain 𝓤 H A) x (valB x ∷ []) is-x $ fjoin ! $ nothing ! $ done !
 
   -- the change call, on the first elements of the array in the local l, lent for κ under γ
@@ -171,8 +171,8 @@ module _ {M : Type 1} (𝓤 : URA M) (H : Heap 𝓤) (A : Atoms 𝓤) (W : Given
     said : (γ : GName) (r : Changed) → ent 𝓤 (ensured 𝓤 H A change.ended (change.clauses 𝓤 H A mem′ run) (κ, tt) (x, (s γ, tt)) tt r) (fact 𝓤 (r ≡ changed x ys))
     said γ r = exE 𝓤 _ (λ ws. snd∗ 𝓤 (sem 𝓤 H A (lasts change.ended (κ, tt) (x, (s γ, tt)) ws)) (fact 𝓤 (r ≡ changed x ys)))
 
-  module _ (C : Calls 𝓤 H) (Λ : Loops 𝓤 H) (fm : FmC 𝓤 H (W .laws) C) (known : Triple 𝓤 (C #change) (Change′ 𝓤 H A mem′ run)) (few : n ≤ 4) where
-    four : length xs ≡ 4
+  module _ (C : Calls 𝓤 H) (Λ : Loops 𝓤 H) (fm : FmC 𝓤 H (W .laws) C) (known : Triple 𝓤 (C #change) (Change′ 𝓤 H A mem′ run)) (few : n ≤ 8) where
+    four : length xs ≡ 8
     four = is-xs .1 .0 .1
 
     as-many : n ≡ length ys
@@ -186,9 +186,9 @@ module _ {M : Type 1} (𝓤 : URA M) (H : Heap 𝓤) (A : Atoms 𝓤) (W : Given
         qed W (raw (onEntry 𝓤 H A after.signature tt tt (x, (xs, (n, tt))) at′) ∷ []) ∵ enter ! C Λ code.function (valB x ∷ valA xs ∷ vint w64 n ∷ []) _ $
         alloc1 ! (λ l₀. alloc1 ! (λ l₁. alloc1 ! (λ l₂. alloc1 ! (λ l₃. alloc1 ! (λ l₄. alloc1 ! (λ l₅. alloc1 ! (λ l₆. alloc0 ! $ params1 ! $
         pass1 ! (init ! 10 refl (LL.lawful B.the-type B′.the-laws 𝓤 H A W .typed x _ is-x .0)) $
-        pass1 ! (init ! 8 refl (array-lawful 𝓤 H A W R (LL.lawful T.the-type T′.the-laws 𝓤 H A W) 4 .typed xs _ is-xs .0)) $
+        pass1 ! (init ! 8 refl (array-lawful 𝓤 H A W R (LL.lawful T.the-type T′.the-laws 𝓤 H A W) 8 .typed xs _ is-xs .0)) $
         pass1 ! (init ! 6 refl (tt, record { fits = is-n .1 })) $ pass0 ! $ move ! (14 ∷ []) $ drop ! $
-        assigns ! (of-opd ! (load ! (from ! (stop !)) (look ! 8 refl))) (from ! (stop !)) (init ! 4 refl (array-lawful 𝓤 H A W R (LL.lawful T.the-type T′.the-laws 𝓤 H A W) 4 .typed xs _ is-xs .0)) $
+        assigns ! (of-opd ! (load ! (from ! (stop !)) (look ! 8 refl))) (from ! (stop !)) (init ! 4 refl (array-lawful 𝓤 H A W R (LL.lawful T.the-type T′.the-laws 𝓤 H A W) 8 .typed xs _ is-xs .0)) $
         assigns ! (addr ! (from ! (stop !))) (from ! (stop !)) (init ! 2 refl (tt, tt)) $
         assigns ! (agg ! (and-then ! (load ! (from ! (stop !)) (look ! 2 refl)) (and-then ! (load ! (from ! (stop !)) (look ! 6 refl)) (no-more !)))) (from ! (stop !)) (init ! 0 refl (tt, (tt, (record { fits = is-n .1 }, tt)))) $
         rewrite ! 0 (λ (m : ℕ). ‵ (fat fullShare slice l₆ 0 (sliceVal (l₄, 0) m))) as-many refl $
@@ -213,7 +213,7 @@ module _ {M : Type 1} (𝓤 : URA M) (H : Heap 𝓤) (A : Atoms 𝓤) (W : Given
 module _ {M : Type 1} (𝓤 : URA M) (H : Heap 𝓤) (A : Atoms 𝓤) (W : Given 𝓤 H A) (mem′ : Memory → SProp 𝓤) (run : Routine → Fun 𝓤) (𝓣 : Tables 𝓤 H) (known : Triple 𝓤 (𝓣 .C #change) (Change′ 𝓤 H A mem′ run)) where
   after-walks : Walks 𝓤 H A after.ended stayed (WpFn 𝓤 H (𝓣 .C) (𝓣 .Λ) code.function) (after.clauses 𝓤 H A mem′ run)
   after-walks = walked 𝓤 H A after.ended stayed (after.clauses 𝓤 H A mem′ run) (WpFn 𝓤 H (𝓣 .C) (𝓣 .Λ) code.function)
-      (λ κs. (LL.vals B.the-type B′.the-laws, (array-vals vals, (uint-vals w64, tt)))) (λ κs. (LL.tells B.the-type B′.the-laws, (array-tells R vals (LL.tells T.the-type T′.the-laws) 4, (uint-tells w64, tt))))
+      (λ κs. (LL.vals B.the-type B′.the-laws, (array-vals vals, (uint-vals w64, tt)))) (λ κs. (LL.tells B.the-type B′.the-laws, (array-tells R vals (LL.tells T.the-type T′.the-laws) 8, (uint-tells w64, tt))))
       (λ κs qs bounds a gh are. needs 𝓤 _ _ (λ few. walk 𝓤 H A W mem′ run (a .0) (a .1 .0) (a .1 .1 .0) (are .0) (are .1 .0) (are .1 .1 .0) (𝓣 .C) (𝓣 .Λ) (fmOf 𝓤 H (W .laws) 𝓣) known few))
 
   after-meets : Meets 𝓤 H A after.signature (WpFn 𝓤 H (𝓣 .C) (𝓣 .Λ) code.function) (after.spec 𝓤 H A mem′ run)

@@ -1,4 +1,4 @@
--- `ledger::copy_after` meets its contract: the changes in use are as many as the count says, and at most four.
+-- `ledger::copy_after` meets its contract: the changes in use are as many as the count says, and at most eight.
 use borrow.Author.Needs.{needs}
 use native.Mathlib.Omega.{arith}
 use Rattle.ledger.proofs.CopyLaws.{copy-by}
@@ -19,7 +19,7 @@ after-first-requires-2 c κs = search needs
 returns-2 : tie.Need-returns-2
 returns-2 c =
     let a = (c .before .before .before .args) in
-    copy-by (a .table) (a .result) ((c .after-first2) .result) 4 ((c .after-first2) .ensures) (omega (arith, (c .before .if1) .left))
+    copy-by (a .table) (a .result) ((c .after-first2) .result) 8 ((c .after-first2) .ensures) (omega (arith, (c .before .if1) .left))
 
 pub copy-after-spec : {M : Type 1} → statement M
 copy-after-spec =

@@ -45,7 +45,7 @@ loop-less c = search needs
 loop-again : tie.Need-loop-again Inv-loop μ-loop
 loop-again c =
     let changes = (c .before .before .before .before .before .before .before .before .args) .t3 in
-    let long : length changes ≡ 4 = search (needs, length-mapped) in
+    let long : length changes ≡ 8 = search (needs, length-mapped) in
     let low : (c .before .before .before .before .before .before .loop) .i < length changes = omega arith in (
       search needs,
       (c .before .before .put-change) .kept .0 ∙ (c .before .before .before .before .before .before .loop) .inv .1,

@@ -12,7 +12,7 @@
 //! - a queued event is neither pending nor served by one live instance, or a suspended instance has not one goal;
 //! - another event is taken up, another stack runs or another refusal is given than the queue and the turn order say.
 
-use crate::draft::Literal;
+use crate::draft::{Literal, opposite};
 use crate::ledger::parse::{Answer, Call, Change, Letter};
 use std::collections::{HashMap, HashSet};
 
@@ -140,12 +140,14 @@ impl Ledger {
         if external == 32 {
             return self.refused(answer, 7);
         }
-        if kind == 0 && !held && self.beliefs.len() == 64 {
+        let against = self.beliefs.contains(&opposite(literal));
+        if kind == 0 && !held && !against && self.beliefs.len() == 64 {
             return self.refused(answer, 6);
         }
         self.taken += 1;
         want(answer.letter == Letter::T(self.taken as u16), "an event is taken, by the next number")?;
         let due = match kind {
+            0 if !held && against => vec![Change { add: false, literal: opposite(literal) }, Change { add: true, literal }],
             0 if !held => vec![Change { add: true, literal }],
             1 if held => vec![Change { add: false, literal }],
             _ => vec![],
@@ -324,13 +326,18 @@ impl Ledger {
         want(self.closed.insert(origin), "no event is closed twice")
     }
 
-    /// Replays the changes: each has an effect.
-    fn changes(&mut self, answer: &Answer, most: usize) -> Checked {
-        want(answer.changes.len() <= most, "no more changes than this line can have")?;
+    /// Replays the changes: each has an effect, an add finds its opposite taken out, and so many actions can have made them.
+    fn changes(&mut self, answer: &Answer, actions: usize) -> Checked {
+        let is_one_add = |pair: &&[Change]| !pair[0].add && pair[1].add && pair[0].literal == opposite(pair[1].literal);
+        let made_by = answer.changes.len() - answer.changes.windows(2).filter(is_one_add).count();
+        want(made_by <= actions, "no more changes than this line's actions can make")?;
         for change in &answer.changes {
             let place = self.beliefs.iter().position(|held| *held == change.literal);
             want(change.literal[1..].iter().all(|term| *term < 65_528), "a changed belief is ground")?;
             match (change.add, place) {
+                (true, None) if self.beliefs.contains(&opposite(change.literal)) => {
+                    return Err("a literal is added whose opposite is held".to_string());
+                }
                 (true, None) if self.beliefs.len() < 64 => self.beliefs.push(change.literal),
                 (false, Some(place)) => drop(self.beliefs.remove(place)),
                 _ => return Err("a change that has no effect is reported".to_string()),

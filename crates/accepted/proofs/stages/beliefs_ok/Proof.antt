@@ -1,9 +1,9 @@
--- `accepted::stages::beliefs_ok` meets its contract: ground first, then all different.
+-- `accepted::stages::beliefs_ok` meets its contract: ground first, then all different, then no opposites.
 use mathlib.Core.Path.{sym, _∙_}
 use borrow.Author.Tests.{not-true, not-false}
 use borrow.Author.Needs.{needs}
 use denote.Ref.{now}
-use Rattle.accepted.proofs.StageLaws.{ground-fails, distinct-decides}
+use Rattle.accepted.proofs.StageLaws.{ground-fails, repeated-fails, opposed-decides}
 use Rattle.accepted.proofs.stages.beliefs_ok.Statement.{statement}
 use Rattle.accepted.proofs.stages.beliefs_ok.Tie as tie
 
@@ -35,7 +35,18 @@ all-distinct-requires : tie.Need-all-distinct-requires
 all-distinct-requires c κs = search needs
 
 returns-2 : tie.Need-returns-2
-returns-2 c = (c .all-distinct) .ensures ∙ distinct-decides (now ((c .before .before .before .before .before .before .args) .library)) _ _ ((c .before .before .before .before .plan-count) .ensures) ((c .before .before .before .belief-count) .ensures) (sym ((c .before .before .all-ground) .ensures) ∙ not-false _ ((c .before .if1) .left))
+returns-2 c =
+    repeated-fails (now ((c .before .before .before .before .before .before .before .args) .library)) _ _ ((c .before .before .before .before .before .plan-count) .ensures) ((c .before .before .before .before .belief-count) .ensures)
+    (sym ((c .before .before .before .all-ground) .ensures) ∙ not-false _ ((c .before .before .if1) .left)) (sym ((c .before .all-distinct) .ensures) ∙ not-true _ ((c .if2) .taken))
+
+all-distinct-requires-2 : tie.Need-all-distinct-requires-2
+all-distinct-requires-2 c κs = search needs
+
+returns-3 : tie.Need-returns-3
+returns-3 c =
+    (c .all-distinct2) .ensures
+    ∙ opposed-decides (now ((c .before .before .before .before .before .before .before .before .args) .library)) _ _ ((c .before .before .before .before .before .before .plan-count) .ensures) ((c .before .before .before .before .before .belief-count) .ensures)
+    (sym ((c .before .before .before .before .all-ground) .ensures) ∙ not-false _ ((c .before .before .before .if1) .left)) (sym ((c .before .before .all-distinct) .ensures) ∙ not-false _ ((c .before .if2) .left))
 
 pub beliefs-ok-spec : {M : Type 1} → statement M
 beliefs-ok-spec =
@@ -50,4 +61,6 @@ beliefs-ok-spec =
     all-ground-requires
     returns
     all-distinct-requires
-    returns-2)
+    returns-2
+    all-distinct-requires-2
+    returns-3)

@@ -1,7 +1,7 @@
 -- `trials::changes::list_run` meets its contract. The loop's invariant: the changes noted and the effects of the actions left are those of all that run.
 use borrow.Author.Needs.{needs}
 use native.Mathlib.Omega.{arith}
-use Prim.Native.Nat.{ℕ, _-_, _<_, _≤_}
+use Prim.Native.Nat.{ℕ, _*_, _-_, _<_, _≤_}
 use mathlib.Core.Path.{_≡_, refl, ap, sym, _∙_}
 use mathlib.Core.Bool.{Bool}
 use mathlib.Core.List.{List, _++_, append-nil}
@@ -26,7 +26,7 @@ run bytes plan succeeds = take 4 (listOf succeeds (planOf bytes plan))
 
 abbrev Inv-loop : tie.InvT-loop
 Inv-loop library plan succeeds env n t₀ i₀ t i =
-    (i ≤ n) × ((t .count ≤ i) × ((t₀ .table .count ≤ 64 → t .table .count ≤ 64) × (
+    (i ≤ n) × ((t .count ≤ 2 * i) × ((t₀ .table .count ≤ 64 → t .table .count ≤ 64) × (
     (changesOf t ++ effects (view (t .table)) env (drop i (run library plan succeeds)) ≡ effects (view (t₀ .table)) env (run library plan succeeds))
     × (view (t .table) ≡ replay (view (t₀ .table)) (changesOf t)))))
 
