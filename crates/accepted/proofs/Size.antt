@@ -4,13 +4,15 @@ use mathlib.Core.Path.{_≡_, refl, sym, _∙_}
 use mathlib.Core.Bool.{true, cond}
 use mathlib.Core.List.{List, [], _∷_}
 use mathlib.Core.Logic.{⊎-elim}
-use native.Mathlib.Nat.{eq-or-lt-of-le}
+use native.Mathlib.Nat.{add-zero, zero-add, zero-mul, one-mul, add-mul, eq-or-lt-of-le}
 use native.Mathlib.Omega.{arith}
 use borrow.Author.Tests.{leb-true, eqb-true, eq-eqb, ne-eqb}
 use lib.ListN.{length}
 use lib.Dec.{eqb}
 use Rattle.lists.specs.Search.{all}
+use Rattle.lists.specs.Counts as Counts
 use Rattle.lists.proofs.BoolLaws.{and-parts}
+use Rattle.lists.proofs.CountLaws.{total-same, total-add, total-zero, total-length}
 use Rattle.library.specs.declared.Branch.{Branch}
 use Rattle.library.specs.Bytes.{u16At, literalAt, branchAt, items, rows, rowsEnd}
 use Rattle.library.specs.Layout.{situationAt, situationEnd, actionsAt, actionsEnd, statesAt, statesEnd, maintenanceOff, successOff, failureOff, statesOff, planEnd, planAt, planCount, plansOff, entryOff, entryLength}
@@ -21,87 +23,94 @@ use Rattle.library.proofs.PartLaws.{length-actions, length-states}
 use Rattle.accepted.proofs.RuleFacts.{few-alternatives, parts-situation, few-actions, next-above, next-below, branches-ok, some-state, few-states, parts-states, keeps-rules}
 use Rattle.accepted.proofs.Accepted.{passed, contents}
 
--- ---- A tree of S states has S - 1 branches: each branch is counted at its next state, and each state but 0 counts one
-
--- the sum of what n numbers from a first one on give
-abbrev sumFrom : (ℕ → ℕ) → ℕ → ℕ → ℕ
-sumFrom f zero first = 0
-sumFrom f (suc n) first = f first + sumFrom f n (first + 1)
-
-sum-add : (f g : ℕ → ℕ) (n first : ℕ) → sumFrom (λ k. f k + g k) n first ≡ sumFrom f n first + sumFrom g n first
-sum-add f g zero first = refl
-sum-add f g (suc n) first = let rest = sum-add f g n (first + 1) in omega arith
-
-sum-zeros : (n first : ℕ) → sumFrom (λ k. 0) n first ≡ 0
-sum-zeros zero first = refl
-sum-zeros (suc n) first = let rest = sum-zeros n (first + 1) in omega arith
-
-sum-ones : (f : ℕ → ℕ) (n first : ℕ) → all (λ k. eqb (f k) 1) (numbers n first) ≡ true → sumFrom f n first ≡ n
-unfolding all items
-sum-ones f zero first e = refl
-sum-ones f (suc n) first e =
-    let both = and-parts (eqb (f first) 1) (all (λ k. eqb (f k) 1) (numbers n (first + 1))) e in
-    let here = eqb-true (f first) 1 (both .0) in
-    let rest = sum-ones f n (first + 1) (both .1) in
-    omega arith
+-- ---- A sum over the next states of all branches is a sum over all states but 0: each of these is the next state of one branch
 
 -- 1 at x
 abbrev one : ℕ → ℕ → ℕ
 one x k = cond (eqb x k) 1 0
 
-one-past : (x n first : ℕ) → x < first → sumFrom (one x) n first ≡ 0
-one-past x zero first h = refl
-one-past x (suc n) first h =
-    let rest = one-past x n (first + 1) (omega arith) in
-    let here : one x first ≡ 0 = rw (ne-eqb x first (λ (e : x ≡ first). omega arith)) in
-    omega arith
+-- f summed over the numbers, each of them so many times
+abbrev weighed : (ℕ → ℕ) → (ℕ → ℕ) → List ℕ → ℕ
+weighed f times ks = Counts.total (λ k. times k * f k) ks
 
-one-in : (x n first : ℕ) → first ≤ x → x < first + n → sumFrom (one x) n first ≡ 1
-one-in x zero first low high = absurd (omega arith)
-one-in x (suc n) first low high =
-    ⊎-elim
-    (λ (e : first ≡ x).
-    let rest = one-past x n (first + 1) (omega arith) in
-    let here : one x first ≡ 1 = rw (eq-eqb x first (sym e)) in
-    omega arith)
-    (λ (l : first < x).
-    let rest = one-in x n (first + 1) (omega arith) (omega arith) in
-    let here : one x first ≡ 0 = rw (ne-eqb x first (λ (e : x ≡ first). omega arith)) in
-    omega arith)
-    (eq-or-lt-of-le low)
+module _ (f : ℕ → ℕ) where
+  none-weighed : (ks : List ℕ) → weighed f (λ k. 0) ks ≡ 0
+  none-weighed ks = total-same (λ k. 0 * f k) (λ k. 0) ks (λ k. zero-mul (f k)) ∙ total-zero ks
 
-row-sum : (count state : ℕ) (branches : List Branch) → all (branchOk count state) branches ≡ true
-    → sumFrom (λ k. entriesIn k branches) (count - 1) 1 ≡ length branches
-unfolding all entriesIn
-row-sum count state [] e = sum-zeros (count - 1) 1
-row-sum count state (b ∷ bs) e =
-    let both = and-parts (branchOk count state b) (all (branchOk count state) bs) e in
-    let above = next-above count state b (both .0) in
-    let below = next-below count state b (both .0) in
-    let here = one-in (b .next) (count - 1) 1 (omega arith) (omega arith) in
-    let rest = row-sum count state bs (both .1) in
-    sum-add (one (b .next)) (λ k. entriesIn k bs) (count - 1) 1 ∙ rw (here, rest) (omega arith)
+  both-weighed : (g h : ℕ → ℕ) (ks : List ℕ) → weighed f (λ k. g k + h k) ks ≡ weighed f g ks + weighed f h ks
+  both-weighed g h ks =
+      total-same (λ k. (g k + h k) * f k) (λ k. g k * f k + h k * f k) ks (λ k. add-mul (g k) (h k) (f k))
+      ∙ total-add (λ k. g k * f k) (λ k. h k * f k) ks
+
+  once-weighed : (times : ℕ → ℕ) (ks : List ℕ) → all (λ k. eqb (times k) 1) ks ≡ true → weighed f times ks ≡ Counts.total f ks
+  unfolding all
+  once-weighed times [] e = refl
+  once-weighed times (k ∷ ks) e =
+      let both = and-parts (eqb (times k) 1) (all (λ k. eqb (times k) 1) ks) e in
+      rw (eqb-true (times k) 1 (both .0), one-mul, once-weighed times ks (both .1))
+
+  one-past : (x n first : ℕ) → x < first → weighed f (one x) (numbers n first) ≡ 0
+  unfolding items
+  one-past x zero first h = refl
+  one-past x (suc n) first h = rw (ne-eqb x first (λ (e : x ≡ first). omega arith), zero-mul, one-past x n (first + 1) (omega arith))
+
+  one-in : (x n first : ℕ) → first ≤ x → x < first + n → weighed f (one x) (numbers n first) ≡ f x
+  unfolding items
+  one-in x zero first low high = absurd (omega arith)
+  one-in x (suc n) first low high =
+      ⊎-elim
+      (λ (e : first ≡ x). rw (eq-eqb x first (sym e), one-mul, one-past x n (first + 1) (omega arith), add-zero, e))
+      (λ (l : first < x).
+      let rest = one-in x n (first + 1) (omega arith) (omega arith) in
+      rw (ne-eqb x first (λ (e : x ≡ first). omega arith), zero-mul, zero-add, rest))
+      (eq-or-lt-of-le low)
+
+  -- f summed over the next states of a state's branches
+  abbrev pub atNexts : List Branch → ℕ
+  atNexts branches = Counts.total (λ b. f (b .next)) branches
+
+  row-sum : (count state : ℕ) (branches : List Branch) → all (branchOk count state) branches ≡ true
+      → weighed f (λ k. entriesIn k branches) (numbers (count - 1) 1) ≡ atNexts branches
+  unfolding all entriesIn
+  row-sum count state [] e = none-weighed (numbers (count - 1) 1)
+  row-sum count state (b ∷ bs) e =
+      let both = and-parts (branchOk count state b) (all (branchOk count state) bs) e in
+      let above = next-above count state b (both .0) in
+      let below = next-below count state b (both .0) in
+      let here = one-in (b .next) (count - 1) 1 (omega arith) (omega arith) in
+      let rest = row-sum count state bs (both .1) in
+      both-weighed (one (b .next)) (λ k. entriesIn k bs) (numbers (count - 1) 1) ∙ rw (here, rest)
+
+  rows-sum : (count state : ℕ) (states : List (List Branch)) → statesFrom count state states ≡ true
+      → weighed f (λ k. entries k states) (numbers (count - 1) 1) ≡ Counts.total atNexts states
+  unfolding statesFrom entries
+  rows-sum count state [] e = none-weighed (numbers (count - 1) 1)
+  rows-sum count state (branches ∷ rest) e =
+      let both = and-parts (stateOk count state branches) (statesFrom count (state + 1) rest) e in
+      let here = row-sum count state branches (branches-ok count state branches (both .0)) in
+      let later = rows-sum count (state + 1) rest (both .1) in
+      both-weighed (λ k. entriesIn k branches) (λ k. entries k rest) (numbers (count - 1) 1) ∙ rw (here, later)
+
+  -- and of all states' branches
+  pub tree-nexts : (states : List (List Branch)) → statesOk states ≡ true
+      → Counts.total atNexts states ≡ Counts.total f (numbers (length states - 1) 1)
+  unfolding isTree
+  tree-nexts states ok =
+      let parts = parts-states states ok in
+      sym (rows-sum (length states) 0 states (parts .2))
+      ∙ once-weighed (λ k. entries k states) (numbers (length states - 1) 1) (parts .3)
 
 -- all branches of all states
 abbrev pub total : List (List Branch) → ℕ
-total [] = 0
-total (branches ∷ rest) = length branches + total rest
+total states = Counts.total (λ branches. length branches) states
 
-rows-sum : (count state : ℕ) (states : List (List Branch)) → statesFrom count state states ≡ true
-    → sumFrom (λ k. entries k states) (count - 1) 1 ≡ total states
-unfolding statesFrom entries
-rows-sum count state [] e = sum-zeros (count - 1) 1
-rows-sum count state (branches ∷ rest) e =
-    let both = and-parts (stateOk count state branches) (statesFrom count (state + 1) rest) e in
-    let here = row-sum count state branches (branches-ok count state branches (both .0)) in
-    let later = rows-sum count (state + 1) rest (both .1) in
-    sum-add (λ k. entriesIn k branches) (λ k. entries k rest) (count - 1) 1 ∙ rw (here, later)
-
+-- a tree of S states has S - 1 branches
 pub tree-branches : (states : List (List Branch)) → statesOk states ≡ true → total states ≡ length states - 1
-unfolding isTree
 tree-branches states ok =
-    let parts = parts-states states ok in
-    sym (rows-sum (length states) 0 states (parts .2)) ∙ sum-ones (λ k. entries k states) (length states - 1) 1 (parts .3)
+    total-same (λ branches. length branches) (atNexts (λ k. 1)) states (λ branches. total-length branches)
+    ∙ tree-nexts (λ k. 1) states ok
+    ∙ sym (total-length (numbers (length states - 1) 1))
+    ∙ length-items (λ k. k) 1 (length states - 1) 1
 
 -- ---- The parts of a plan
 
