@@ -138,6 +138,13 @@ fn search() -> Library {
     Library { beliefs, plans: vec![Plan { context: vec![literals], ..Plan::simple(TOLD, of_v0(9)) }] }
 }
 
+/// Told +9 x has a solution for each two of 64 beliefs and is made with the least value of V2: 64 × 64 solutions.
+fn least() -> Library {
+    let beliefs = (0..64).map(|place| [1, 63 - place, 0, 0]).collect();
+    let literals = vec![[1, V0 + 1, 0, 0], [1, V0 + 2, 0, 0]];
+    Library { beliefs, plans: vec![Plan { least: Some(2), context: vec![literals], ..Plan::simple(TOLD, of_v0(9)) }] }
+}
+
 /// Plans whose instances wait at once, above as many suspended instances as asked.
 fn tower(height: u16) -> Library {
     let goal = |floor: u16| of_v0(20 + floor);
@@ -163,6 +170,7 @@ pub fn runs() -> Vec<Case> {
         Case::new("a million refused outcomes", &tower(1), "O 7 1\n".repeat(1_000_000)),
         Case::new("a million unreadable lines", &tower(1), "P 0 +1 65536 0 0\n".repeat(1_000_000)),
         Case::new("search over 64 beliefs, 200 events", &search(), "P 2 +9 1 0 0\nC\n".repeat(200)),
+        Case::new("least of 4,096 solutions, 200 events", &least(), "P 2 +9 1 0 0\nC\nC\n".repeat(200)),
     ]
 }
 

@@ -125,14 +125,18 @@ impl Agent {
         self.queue.push(Event { origin, kind, fact, failed: Vec::new(), served: false });
     }
 
-    /// The first applicable plan with its first solution.
+    /// The first applicable plan with the solution that it is to be made with: its first, or the one with the least value.
     fn choose(&self, event: &Event) -> Option<(usize, Bindings)> {
         self.plans.iter().enumerate().find_map(|(number, plan)| {
             if plan.kind != event.kind || event.failed.contains(&number) {
                 return None;
             }
             let bindings = plan.trigger.matched(&event.fact, &Bindings::default())?;
-            Some((number, plan.context.first_solution(&self.beliefs, &bindings)?))
+            let solution = match plan.least {
+                None => plan.context.first_solution(&self.beliefs, &bindings),
+                Some(variable) => plan.context.least_solution(&self.beliefs, &bindings, variable),
+            };
+            Some((number, solution?))
         })
     }
 

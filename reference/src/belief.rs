@@ -1,4 +1,4 @@
-//! The belief table and the search for a situation's first solution (document 01, "Literals and matching", "Situations").
+//! The belief table and the search for a situation's solutions (document 01, "Literals and matching", "Situations").
 
 use crate::literal::{Bindings, Fact, Literal};
 
@@ -73,6 +73,16 @@ impl Beliefs {
         }
         self.0.iter().find_map(|fact| self.first_solution(rest, &first.matched(fact, bindings)?))
     }
+
+    /// Visits the solutions of a list of literals in order.
+    fn visit_solutions(&self, literals: &[Literal], bindings: &Bindings, visit: &mut impl FnMut(&Bindings)) {
+        let Some((first, rest)) = literals.split_first() else {
+            return visit(bindings);
+        };
+        for extended in self.0.iter().filter_map(|fact| first.matched(fact, bindings)) {
+            self.visit_solutions(rest, &extended, visit);
+        }
+    }
 }
 
 /// Alternatives, each a list of literals that must be held together.
@@ -83,6 +93,24 @@ impl Situation {
     /// The first solution of the first alternative that has one.
     pub fn first_solution(&self, beliefs: &Beliefs, bindings: &Bindings) -> Option<Bindings> {
         self.0.iter().find_map(|literals| beliefs.first_solution(literals, bindings))
+    }
+
+    /// Visits all solutions in order.
+    pub fn visit_solutions(&self, beliefs: &Beliefs, bindings: &Bindings, mut visit: impl FnMut(&Bindings)) {
+        for literals in &self.0 {
+            beliefs.visit_solutions(literals, bindings, &mut visit);
+        }
+    }
+
+    /// The solution with the least value of a variable, unbound counting above all constants; the first one of equals.
+    pub fn least_solution(&self, beliefs: &Beliefs, bindings: &Bindings, variable: u8) -> Option<Bindings> {
+        let mut least: Option<Bindings> = None;
+        self.visit_solutions(beliefs, bindings, |solution| {
+            if least.is_none_or(|least| solution.rank(variable) < least.rank(variable)) {
+                least = Some(*solution);
+            }
+        });
+        least
     }
 
     /// Whether there is a solution.
@@ -120,6 +148,27 @@ mod tests {
         assert_eq!(first(vec![vec![]]), Some(None));
         assert_eq!(first(vec![vec![literal(32_769, V0)]]), None);
         assert_eq!(first(vec![vec![Literal::from_stored([1, V0, V0, 0])]]), None);
+    }
+
+    /// V0 and V1 of the solution with the least V0, among beliefs that have both as terms.
+    fn least(alternatives: Vec<Vec<Literal>>) -> Option<(Option<u16>, Option<u16>)> {
+        let pair = |first: u16, second: u16| Fact { terms: [first, second, 0], ..fact(1, 0) };
+        let beliefs = Beliefs::of(vec![pair(7, 1), pair(3, 2), pair(65_527, 4), pair(3, 3)]);
+        let solution = Situation(alternatives).least_solution(&beliefs, &Bindings::default(), 0);
+        solution.map(|bindings| (bindings.get(0), bindings.get(1)))
+    }
+
+    #[test]
+    fn the_least_value_then_the_first_of_equals_and_unbound_last() {
+        let both = Literal::from_stored([1, V0, V0 + 1, 0]);
+        let second = Literal::from_stored([1, 65_527, V0 + 1, 0]);
+        let largest = Literal::from_stored([1, V0, 4, 0]);
+        assert_eq!(least(vec![vec![both]]), Some((Some(3), Some(2))));
+        assert_eq!(least(vec![vec![second], vec![both]]), Some((Some(3), Some(2))));
+        assert_eq!(least(vec![vec![], vec![largest]]), Some((Some(65_527), None)));
+        assert_eq!(least(vec![vec![second], vec![]]), Some((None, Some(4))));
+        assert_eq!(least(vec![vec![literal(2, V0)]]), None);
+        assert_eq!(least(vec![]), None);
     }
 
     #[test]

@@ -9,6 +9,8 @@ pub const MOST_PLANS: usize = 32;
 const MOST_STATES: usize = 16;
 /// The most alternatives, literals, actions or branches in one list.
 const MOST_ITEMS: usize = 4;
+/// A trigger kind carries this v + 1 times where the least value of variable v decides.
+const MARK: u16 = 16;
 
 /// What an event tells, or a plan answers to.
 #[derive(Clone, Copy, Debug, PartialEq, Eq)]
@@ -65,6 +67,8 @@ pub enum Action {
 pub struct Plan {
     /// The kind of event that it answers to.
     pub kind: EventKind,
+    /// The variable whose least value decides which of the context's solutions is used; none: the first one is.
+    pub least: Option<u8>,
     /// The literal that the event's must match.
     pub trigger: Literal,
     /// What must hold for it to be chosen.
@@ -188,8 +192,10 @@ impl Reader<'_> {
     }
 
     fn plan(&mut self) -> Option<Plan> {
+        let (kind, least) = self.trigger_kind()?;
         let plan = Plan {
-            kind: self.event_kind()?,
+            kind,
+            least,
             trigger: self.literal()?,
             context: self.situation()?,
             maintenance: self.situation()?,
@@ -200,15 +206,22 @@ impl Reader<'_> {
         is_tree(&plan.states).then_some(plan)
     }
 
-    fn event_kind(&mut self) -> Option<EventKind> {
-        Some(match self.number()? {
+    /// The kind of event, and the variable v where 16 × (v + 1) is added to it (document 02, request 12).
+    fn trigger_kind(&mut self) -> Option<(EventKind, Option<u8>)> {
+        let field = self.number()?;
+        let kind = match field % MARK {
             0 => EventKind::Added,
             1 => EventKind::Removed,
             2 => EventKind::Told,
             3 => EventKind::Achieve,
             4 => EventKind::Query,
             _ => return None,
-        })
+        };
+        match field / MARK {
+            0 => Some((kind, None)),
+            mark @ 1..=8 => Some((kind, Some(mark as u8 - 1))),
+            _ => None,
+        }
     }
 
     fn situation(&mut self) -> Option<Situation> {
@@ -255,6 +268,22 @@ mod tests {
         assert_eq!(refused(&[0; 4]), None);
         assert_eq!(refused(&[0; 3]), Some(1));
         assert_eq!(refused(&[0; 5]), Some(2));
+    }
+
+    #[test]
+    fn a_trigger_kind_is_0_to_4_alone_or_with_one_of_eight_variables() {
+        let decoded = |field: u16| {
+            let numbers = [1, 0, 8, 22, field, 1, 0, 0, 0, 0, 0, 0, 0, 1, 0];
+            let bytes: Vec<u8> = numbers.iter().flat_map(|number: &u16| number.to_le_bytes()).collect();
+            Library::decode(&bytes).map(|library| (library.plans[0].kind, library.plans[0].least))
+        };
+        let accepted: Vec<u16> = (0..=u16::MAX).filter(|field| decoded(*field).is_ok()).collect();
+        let expected: Vec<u16> = (0..9).flat_map(|mark| (0..5).map(move |kind| 16 * mark + kind)).collect();
+        assert_eq!(accepted, expected);
+        assert_eq!(decoded(2), Ok((EventKind::Told, None)));
+        assert_eq!(decoded(16), Ok((EventKind::Added, Some(0))));
+        assert_eq!(decoded(132), Ok((EventKind::Query, Some(7))));
+        assert_eq!(decoded(5), Err(Refusal::Plan));
     }
 
     #[test]

@@ -76,6 +76,11 @@ impl Bindings {
         self.0[usize::from(variable)]
     }
 
+    /// Where a variable's value stands among others: constants by themselves, unbound above them all.
+    pub fn rank(&self, variable: u8) -> u32 {
+        self.get(variable).map_or(u32::MAX, u32::from)
+    }
+
     fn value(&self, term: Term) -> Option<u16> {
         match term {
             Term::Constant(constant) => Some(constant),

@@ -12,6 +12,7 @@ from pathlib import Path
 
 FIRST_VARIABLE = 65_528
 NEGATIVE = 32_768
+MARK = 16  # for each variable up to the one whose least value decides, added to a trigger kind
 TRIGGERS = ["added", "removed", "told", "achieve", "query"]
 ACTIONS = ["add", "remove"]
 BRANCHES = ["add", "remove", "do", "achieve", "query"]
@@ -54,9 +55,14 @@ def index(word, words):
     return words.index(word)
 
 
+def variable(word):
+    if not re.fullmatch(r"V[0-7]", word):
+        raise Wrong(f"{word!r} is no variable")
+    return int(word[1])
+
+
 def term(word):
-    variable = re.fullmatch(r"V([0-7])", word)
-    return FIRST_VARIABLE + int(variable[1]) if variable else constant(word)
+    return FIRST_VARIABLE + variable(word) if word.startswith("V") else constant(word)
 
 
 # ---- The text
@@ -66,6 +72,8 @@ class Plan:
     """A plan's parts as they are read."""
 
     def __init__(self):
+        self.kind = None
+        self.mark = 0
         self.trigger = None
         self.context = None
         self.maintenance = None
@@ -74,11 +82,12 @@ class Plan:
         self.states = []
 
     def encoded(self):
-        for part in ("trigger", "context", "maintenance"):
+        for part in ("kind", "context", "maintenance"):
             if getattr(self, part) is None:
                 raise Wrong(f"a plan without its {part}")
         states = listed([listed(branches) for branches in self.states])
-        return self.trigger + listed(self.context) + listed(self.maintenance) + listed(self.success) + listed(self.failure) + states
+        trigger = number(self.kind + self.mark) + self.trigger
+        return trigger + listed(self.context) + listed(self.maintenance) + listed(self.success) + listed(self.failure) + states
 
 
 class Text:
@@ -113,7 +122,9 @@ class Text:
     def part(self, plan, head, words):
         """One line of a plan."""
         if head == "when":
-            plan.trigger = number(index(words[0], TRIGGERS)) + self.literal(words[1:])
+            plan.kind, plan.trigger = index(words[0], TRIGGERS), self.literal(words[1:])
+        elif head == "least" and len(words) == 1:
+            plan.mark = MARK * (variable(words[0]) + 1)
         elif head in SITUATIONS:
             self.alternative(plan, SITUATIONS[head], words)
         elif head == "on" and words[0] in LISTS:

@@ -1,5 +1,5 @@
 -- What acceptance of a library gives, at an index.
-use Prim.Native.Nat.{ℕ, zero, suc, _+_, _-_, _<_, _≤_}
+use Prim.Native.Nat.{ℕ, zero, suc, _+_, _-_, _*_, _<_, _≤_}
 use mathlib.Core.Path.{_≡_, refl}
 use mathlib.Core.Bool.{Bool, true, false, cond}
 use mathlib.Core.List.{List, []}
@@ -15,10 +15,11 @@ use Rattle.literal.specs.Literal.{negative, isGround, same}
 use Rattle.literal.proofs.LiteralLaws.{equal-same}
 use Rattle.library.specs.declared.Branch.{Branch}
 use Rattle.library.specs.Plan.{noLiteral, noBranch}
-use Rattle.library.specs.Bytes.{items}
-use Rattle.library.specs.Layout.{planCount, beliefCount, plansOff, entryOff, entryLength, beliefsOf, planOf, planEnd, libraryOf}
+use Rattle.library.specs.Bytes.{u16At, items}
+use Rattle.library.specs.Layout.{planCount, beliefCount, plansOff, entryOff, entryLength, beliefsOf, planAt, planOf, planEnd, libraryOf}
 use Rattle.accepted.specs.Rules.{branchOk, planOk, beliefsOk, libraryOk}
 use Rattle.accepted.specs.Refusal.{contentsFit, packedFrom, isPacked, planFitsAt, planFits, plansFit, refusalOf, Accepted, partRefusalOf, partOf}
+use Rattle.library.proofs.FieldLaws.{field-is}
 use Rattle.library.proofs.RowLaws.{length-items, items-at, items-all}
 use Rattle.library.proofs.PartLaws.{length-beliefs}
 use Rattle.accepted.proofs.RuleFacts.{KeepsRules, keeps-rules, branch-ok, kind-in, positive, next-above, next-below}
@@ -108,7 +109,13 @@ module _ (bytes : List ℕ) (accepted : Accepted bytes) where
     pub keeps : KeepsRules (planOf bytes plan)
     keeps = keeps-rules (planOf bytes plan) plan-ok
 
-    -- and ends where its entry says
+    -- its trigger's field is a kind 0..4, with 16 × (v + 1) added for a variable V0..V7 or with nothing
+    pub plan-field : (u16At bytes (entryOff bytes plan) ≡ planOf bytes plan .kind + 16 * planOf bytes plan .least)
+        × (planOf bytes plan .kind ≤ 4) × (planOf bytes plan .least ≤ 8)
+    unfolding planAt
+    plan-field = (field-is (u16At bytes (entryOff bytes plan)), keeps .kind, keeps .least)
+
+    -- it ends where its entry says
     pub plan-end : planEnd bytes (entryOff bytes plan) ≡ entryOff bytes plan + entryLength bytes plan
     unfolding planFitsAt
     plan-end = eqb-true _ _ (and-parts (planOk (planOf bytes plan)) _ plan-fits .1)

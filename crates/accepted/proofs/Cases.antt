@@ -10,9 +10,9 @@ use Rattle.library.specs.Bytes.{u16At, items, rows, rowsEnd}
 use Rattle.library.specs.Layout.{situationAt, situationEnd, actionsAt, actionsEnd, statesAt, statesEnd, maintenanceOff, successOff, failureOff, statesOff, planEnd, planAt, planCount, beliefCount, plansOff, beliefsOf, libraryOf}
 use Rattle.accepted.specs.Rules.{situationOk, actionsOk, branchOk, stateOk, statesFrom, entriesIn, entries, isTree, statesOk, planOk, beliefsOk}
 use Rattle.accepted.specs.Refusal.{contentsFit, packedFrom, isPacked, planFitsAt, plansFit, refusalOf, Accepted, partRefusalOf, partOf}
-use Rattle.accepted.specs.Parser.{many, number, numberUpTo, upToFour, literal, situation, action, actions, branch, leadsUp, formTree, state, states, plan}
+use Rattle.accepted.specs.Parser.{many, number, numberUpTo, upToFour, literal, situation, action, actions, branch, leadsUp, formTree, state, states, trigger, plan}
 use Rattle.accepted.specs.Parser.Parsed.{parsed}
-use Rattle.accepted.specs.Cases.{journalLibrary, journalPlan, RefusalCase, refusalCases}
+use Rattle.accepted.specs.Cases.{journalLibrary, journalPlan, journalPlanBy, markedLibrary, RefusalCase, refusalCases}
 
 -- ---- Refusals
 
@@ -43,8 +43,17 @@ journal-library = refl
 
 -- the page's list gives the same plan
 pub journal-parses : plan (drop 8 journalLibrary) ≡ parsed journalPlan []
-unfolding journalLibrary many number numberUpTo upToFour literal situation action actions branch leadsUp formTree state states plan all items isTree entriesIn entries
+unfolding journalLibrary many number numberUpTo upToFour literal situation action actions branch leadsUp formTree state states trigger plan all items isTree entriesIn entries
 journal-parses = refl
+
+-- with the mark: the kind without it, and V7 chooses
+pub marked-library : libraryOf markedLibrary ≡ record { beliefs = []; plans = journalPlanBy 4 8 ∷ [] }
+unfolding markedLibrary journalLibrary libraryOf planCount beliefCount plansOff beliefsOf u16At items rows rowsEnd situationAt situationEnd actionsAt actionsEnd statesAt statesEnd maintenanceOff successOff failureOff statesOff planEnd planAt
+marked-library = refl
+
+pub marked-parses : plan (drop 8 markedLibrary) ≡ parsed (journalPlanBy 4 8) []
+unfolding markedLibrary journalLibrary many number numberUpTo upToFour literal situation action actions branch leadsUp formTree state states trigger plan all items isTree entriesIn entries
+marked-parses = refl
 
 pub journal-part : partOf journalLibrary 0 ≡ drop 8 journalLibrary
 unfolding partOf partRefusalOf journalLibrary refusalOf contentsFit packedFrom isPacked beliefsOk planFitsAt plansFit planCount beliefCount plansOff beliefsOf u16At items rows rowsEnd all any distinct isGround same situationAt situationEnd actionsAt actionsEnd statesAt statesEnd maintenanceOff successOff failureOff statesOff planEnd planAt situationOk actionsOk branchOk stateOk statesFrom entriesIn entries isTree statesOk planOk

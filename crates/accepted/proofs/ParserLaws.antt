@@ -15,10 +15,10 @@ use Rattle.library.specs.declared.Action.{Action}
 use Rattle.library.specs.declared.Branch.{Branch}
 use Rattle.library.specs.Plan.{Situation, Plan}
 use Rattle.library.specs.Bytes.{u16At, literalAt, actionAt, branchAt, rows, rowsEnd}
-use Rattle.library.specs.Layout.{situationAt, situationEnd, actionsAt, actionsEnd, statesAt, statesEnd, maintenanceOff, successOff, failureOff, statesOff, planEnd, planAt, planCount, planOf, entryOff, entryLength}
-use Rattle.accepted.specs.Rules.{atMost, situationOk, actionOk, actionsOk, signOk, branchOk, stateOk, statesFrom, isTree, statesOk, planOk}
+use Rattle.library.specs.Layout.{situationAt, situationEnd, actionsAt, actionsEnd, statesAt, statesEnd, maintenanceOff, successOff, failureOff, statesOff, planEnd, planAt, kindIn, leastIn, planCount, planOf, entryOff, entryLength}
+use Rattle.accepted.specs.Rules.{atMost, situationOk, actionOk, actionsOk, signOk, branchOk, stateOk, statesFrom, isTree, statesOk, triggerOk, planOk}
 use Rattle.accepted.specs.Refusal.{planFitsAt, Accepted}
-use Rattle.accepted.specs.Parser.{literal, situation, action, actions, branch, leads, leadsUp, formTree, state, states, plan, upToFour}
+use Rattle.accepted.specs.Parser.{literal, situation, action, actions, branch, leads, leadsUp, formTree, state, states, trigger, plan, upToFour}
 use Rattle.accepted.specs.Parser.Parsed.{parsed, offLayout}
 use Rattle.library.proofs.RowLaws.{length-rows}
 use Rattle.accepted.proofs.Accepted.{plan-fits, entry-within}
@@ -150,22 +150,26 @@ states-read bytes =
 
 -- ---- A plan
 
+trigger-reads : (bytes : List ℕ) → Reads bytes trigger (λ at. triggerOk (kindIn (u16At bytes at)) (leastIn (u16At bytes at))) (u16At bytes) (λ at. at + 2)
+unfolding trigger
+trigger-reads bytes = then-reads (number-reads bytes) _ (λ field at. triggerOk (kindIn field) (leastIn field)) (λ field at. field) (λ field at. at) (λ field. given-reads bytes (triggerOk (kindIn field) (leastIn field)) field)
+
 abbrev planFrom : ℕ → Literal → Situation → Situation → List Action → List Action → List (List Branch) → Plan
-planFrom kind trigger context maintenance success failure ss =
-    record { kind = kind; trigger = trigger; context = context; maintenance = maintenance; success = success; failure = failure; states = ss }
+planFrom field trigger context maintenance success failure ss =
+    record { kind = kindIn field; least = leastIn field; trigger = trigger; context = context; maintenance = maintenance; success = success; failure = failure; states = ss }
 
 plan-reads : (bytes : List ℕ) → Reads bytes plan (λ at. planOk (planAt bytes at)) (planAt bytes) (planEnd bytes)
 unfolding plan planOk planAt planEnd statesOff failureOff successOff maintenanceOff
 plan-reads bytes =
     renamed
-    (then-reads (up-to-reads bytes 4) _ _ _ _
-    (λ kind. then-reads (literal-reads bytes) _ _ _ _
-    (λ trigger. then-reads (situation-reads bytes) _ _ _ _
+    (then-reads (trigger-reads bytes) _ _ _ _
+    (λ field. then-reads (literal-reads bytes) _ _ _ _
+    (λ l. then-reads (situation-reads bytes) _ _ _ _
     (λ context. then-reads (situation-reads bytes) _ _ _ _
     (λ maintenance. then-reads (actions-read bytes) _ _ _ _
     (λ success. then-reads (actions-read bytes) _ _ _ _
     (λ failure. then-reads (states-read bytes) _ _ _ _
-    (λ ss. value-reads bytes (planFrom kind trigger context maintenance success failure ss)))))))))
+    (λ ss. value-reads bytes (planFrom field l context maintenance success failure ss)))))))))
     _ _ _
     (λ at. (let x : at + 2 + 8 ≡ at + 10 = omega arith in simp (x, and-true)))
     (λ at. (let x : at + 2 + 8 ≡ at + 10 = omega arith in simp x))

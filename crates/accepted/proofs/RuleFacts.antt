@@ -15,7 +15,7 @@ use Rattle.literal.specs.Literal.{negative}
 use Rattle.library.specs.declared.Action.{Action}
 use Rattle.library.specs.declared.Branch.{Branch}
 use Rattle.library.specs.Plan.{Situation, Plan, noAction, noBranch}
-use Rattle.accepted.specs.Rules.{atMost, situationOk, actionOk, actionsOk, signOk, branchOk, stateOk, statesFrom, entries, enteredOnce, isTree, statesOk, planOk}
+use Rattle.accepted.specs.Rules.{atMost, situationOk, actionOk, actionsOk, signOk, branchOk, stateOk, statesFrom, entries, enteredOnce, isTree, statesOk, triggerOk, planOk}
 use Rattle.library.proofs.RowLaws.{items-at}
 
 -- ---- Situations and actions
@@ -122,6 +122,7 @@ module _ (states : List (List Branch)) (ok : statesOk states ≡ true) where
 
 pub record KeepsRules (plan : Plan) : Type 0 where
   pub kind : plan .kind ≤ 4
+  pub least : plan .least ≤ 8
   pub context : situationOk (plan .context) ≡ true
   pub maintenance : situationOk (plan .maintenance) ≡ true
   pub success : actionsOk (plan .success) ≡ true
@@ -131,13 +132,15 @@ pub record KeepsRules (plan : Plan) : Type 0 where
 pub keeps-rules : (plan : Plan) → planOk plan ≡ true → KeepsRules plan
 unfolding planOk
 keeps-rules plan ok =
-    let kind = and-parts (leb (plan .kind) 4) _ ok in
-    let context = and-parts (situationOk (plan .context)) _ (kind .1) in
+    let trigger = and-parts (triggerOk (plan .kind) (plan .least)) _ ok in
+    let field = and-parts (leb (plan .kind) 4) _ (trigger .0) in
+    let context = and-parts (situationOk (plan .context)) _ (trigger .1) in
     let maintenance = and-parts (situationOk (plan .maintenance)) _ (context .1) in
     let success = and-parts (actionsOk (plan .success)) _ (maintenance .1) in
     let failure = and-parts (actionsOk (plan .failure)) _ (success .1) in
     record {
-      kind = leb-true _ _ (kind .0);
+      kind = leb-true _ _ (field .0);
+      least = leb-true _ _ (field .1);
       context = context .0;
       maintenance = maintenance .0;
       success = success .0;

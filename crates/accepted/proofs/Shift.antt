@@ -11,7 +11,7 @@ use lib.Seq.{getD-append-add}
 use lib.Dec.{eqb}
 use Rattle.lists.proofs.BoolLaws.{by-cases}
 use Rattle.library.specs.Bytes.{u16At, literalAt, actionAt, branchAt, items, rows, rowsEnd}
-use Rattle.library.specs.Layout.{situationAt, situationEnd, actionsAt, actionsEnd, statesAt, statesEnd, maintenanceOff, successOff, failureOff, statesOff, planEnd, planAt}
+use Rattle.library.specs.Layout.{situationAt, situationEnd, actionsAt, actionsEnd, statesAt, statesEnd, maintenanceOff, successOff, failureOff, statesOff, planEnd, planAt, kindIn, leastIn}
 use Rattle.accepted.specs.Refusal.{planFitsAt}
 
 eqb-shift : (a m n : ℕ) → eqb (a + m) (a + n) ≡ eqb m n
@@ -151,7 +151,7 @@ module _ (before bytes : List ℕ) where
         let success = ap (actionsAt whole) success-off ∙ actions-shift (successOff bytes off) in
         let failure = ap (actionsAt whole) failure-off ∙ actions-shift (failureOff bytes off) in
         let states = ap (statesAt whole) states-off ∙ states-shift (statesOff bytes off) in
-        λ i. record { kind = kind i; trigger = trigger i; context = context i; maintenance = maintenance i; success = success i; failure = failure i; states = states i }
+        λ i. record { kind = kindIn (kind i); least = leastIn (kind i); trigger = trigger i; context = context i; maintenance = maintenance i; success = success i; failure = failure i; states = states i }
 
     pub fits-shift : (size : ℕ) → planFitsAt whole (past off) size ≡ planFitsAt bytes off size
     unfolding planFitsAt

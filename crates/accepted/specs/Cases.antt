@@ -1,4 +1,5 @@
--- The library of 58 bytes (document 01, "Journal"), byte by byte, the plan that it holds, and a library for each refusal.
+-- The library of 58 bytes (document 01, "Journal"), byte by byte, the plan that it holds, with and without the mark of request 12,
+-- and a library for each refusal.
 use Prim.Native.Nat.{ℕ}
 use mathlib.Core.List.{List, [], _∷_, _++_}
 use lib.ListN.{set, take}
@@ -46,10 +47,12 @@ journalLibrary = journalWith 50 journalStates
 abbrev pub onV0 : ℕ → Literal
 onV0 predicate = record { head = predicate; first = 65528; second = 0; third = 0 }
 
-abbrev pub journalPlan : Plan
-journalPlan =
+-- the plan with a trigger kind, and which variable's least value chooses
+abbrev pub journalPlanBy : ℕ → ℕ → Plan
+journalPlanBy kind least =
     record {
-      kind = 0;
+      kind = kind;
+      least = least;
       trigger = onV0 1;
       context = [] ∷ [];
       maintenance = [] ∷ [];
@@ -57,6 +60,9 @@ journalPlan =
       failure = [];
       states = (record { kind = 2; literal = onV0 9; next = 1 } ∷ []) ∷ [] ∷ [];
     }
+
+abbrev pub journalPlan : Plan
+journalPlan = journalPlanBy 0 0
 
 -- ---- A library for each refusal (document 01, "Who may cause which refusal"; the rows of zero bytes alone are small case 8)
 
@@ -71,9 +77,16 @@ refusedWith refused bytes = record { bytes = bytes; refused = refused }
 abbrev pub changed : ℕ → ℕ → List ℕ
 changed at byte = set journalLibrary at byte
 
+-- kind 4 with the mark of V7: 4 + 16 × 8
+unfoldable pub markedLibrary : List ℕ
+markedLibrary = changed 8 132
+
 unfoldable pub refusalCases : List RefusalCase
 refusalCases =
     refusedWith 0 (0 ∷ 0 ∷ 0 ∷ 0 ∷ [])
+    -- 0: kind 0 with the mark of V0, kind 4 with that of V7
+    ∷ refusedWith 0 (changed 8 16)
+    ∷ refusedWith 0 (changed 8 132)
     -- 1: three bytes; 33 plans; 65 beliefs; an entry past the end; a belief past the end
     ∷ refusedWith 1 (0 ∷ 0 ∷ 0 ∷ [])
     ∷ refusedWith 1 (33 ∷ 0 ∷ 0 ∷ 0 ∷ [])
@@ -91,10 +104,15 @@ refusalCases =
     (0 ∷ 0 ∷ 2 ∷ 0 ∷ 1 ∷ 0 ∷ 5 ∷ 0 ∷ 0 ∷ 0 ∷ 0 ∷ 0 ∷ 1 ∷ 0 ∷ 5 ∷ 0 ∷ 0 ∷ 0 ∷ 0 ∷ 0 ∷ [])
     ∷ refusedWith 3
     (0 ∷ 0 ∷ 2 ∷ 0 ∷ 1 ∷ 0 ∷ 5 ∷ 0 ∷ 0 ∷ 0 ∷ 0 ∷ 0 ∷ 1 ∷ 128 ∷ 5 ∷ 0 ∷ 0 ∷ 0 ∷ 0 ∷ 0 ∷ [])
-    -- 4: a plan of no bytes; trigger kind 5; five alternatives; action kind 2; no states; five branches; branch kind 5;
-    -- a negative external action; next states 0 and 2 of two; a plan of 51 bytes that ends after 50
+    -- 4: a plan of no bytes; trigger kind 5, bare and with the marks of V0 and V7, the mark of a ninth variable, and 256;
+    -- five alternatives; action kind 2; no states; five branches; branch kind 5; a negative external action;
+    -- next states 0 and 2 of two; a plan of 51 bytes that ends after 50
     ∷ refusedWith 4 (1 ∷ 0 ∷ 0 ∷ 0 ∷ 8 ∷ 0 ∷ 0 ∷ 0 ∷ [])
     ∷ refusedWith 4 (changed 8 5)
+    ∷ refusedWith 4 (changed 8 21)
+    ∷ refusedWith 4 (changed 8 133)
+    ∷ refusedWith 4 (changed 8 144)
+    ∷ refusedWith 4 (changed 9 1)
     ∷ refusedWith 4 (changed 18 5)
     ∷ refusedWith 4 (changed 28 2)
     ∷ refusedWith 4 (changed 40 0)

@@ -10,7 +10,8 @@ use Rattle.literal.specs.declared.Literal.{Literal}
 use Rattle.library.specs.declared.Action.{Action}
 use Rattle.library.specs.declared.Branch.{Branch}
 use Rattle.library.specs.Plan.{Situation, Plan}
-use Rattle.accepted.specs.Rules.{signOk, isTree}
+use Rattle.library.specs.Layout.{kindIn, leastIn}
+use Rattle.accepted.specs.Rules.{signOk, isTree, triggerOk}
 
 pub data Parsed (A : Type 0) : Type 0 where
   parsed : A → List ℕ → Parsed A
@@ -105,20 +106,25 @@ states bytes =
 
 -- ---- A plan
 
--- trigger kind 0..4 and literal; context, then maintenance; success list, then failure list; states
+-- a kind 0..4, with 16 × (v + 1) added where the least value of Vv chooses
+unfoldable pub trigger : List ℕ → Parsed ℕ
+trigger bytes = andThen (number bytes) (λ field rest. given (triggerOk (kindIn field) (leastIn field)) field rest)
+
+-- trigger kind and literal; context, then maintenance; success list, then failure list; states
 unfoldable pub plan : List ℕ → Parsed Plan
 plan bytes =
-    andThen (numberUpTo 4 bytes)
-    (λ kind one. andThen (literal one)
-    (λ trigger two. andThen (situation two)
+    andThen (trigger bytes)
+    (λ field one. andThen (literal one)
+    (λ l two. andThen (situation two)
     (λ context three. andThen (situation three)
     (λ maintenance four. andThen (actions four)
     (λ success five. andThen (actions five)
     (λ failure six. andThen (states six)
     (λ ss rest. parsed
     (record {
-      kind = kind;
-      trigger = trigger;
+      kind = kindIn field;
+      least = leastIn field;
+      trigger = l;
       context = context;
       maintenance = maintenance;
       success = success;

@@ -74,9 +74,13 @@ statesOk states = leb 1 (length states) && (atMost 16 states && (statesFrom (len
 
 -- ---- Plans
 
+-- a kind 0..4, and the first solution (0) or the least value of one of eight variables (1..8)
+abbrev pub triggerOk : ℕ → ℕ → Bool
+triggerOk kind least = leb kind 4 && leb least 8
+
 unfoldable pub planOk : Plan → Bool
 planOk plan =
-    leb (plan .kind) 4
+    triggerOk (plan .kind) (plan .least)
     && (situationOk (plan .context)
     && (situationOk (plan .maintenance) && (actionsOk (plan .success) && (actionsOk (plan .failure) && statesOk (plan .states)))))
 

@@ -15,13 +15,15 @@ use library::plan::plan_end;
 use library::plan::states_offset;
 use library::plan::success_offset;
 use library::plan::trigger_kind;
+use library::plan::trigger_least;
+use literal::VARIABLES;
 ghost use mathlib.Core.Path.{_≡_};
 ghost use Prim.Native.Nat.{_<_, _≤_, _^_};
 ghost use Rattle.lists.specs.Search.{all};
 ghost use Rattle.library.specs.Bytes.{literalAt, actionAt, branchAt, items, rows};
-ghost use Rattle.library.specs.Layout.{situationAt, actionsAt, statesAt};
+ghost use Rattle.library.specs.Layout.{situationAt, actionsAt, statesAt, planOf};
 ghost use Rattle.accepted.specs.Rules.{atMost, situationOk, actionOk, actionsOk, signOk, branchOk, stateOk};
-ghost use Rattle.accepted.specs.Rules.{statesFrom, entriesIn, entries, isTree, statesOk};
+ghost use Rattle.accepted.specs.Rules.{statesFrom, entriesIn, entries, isTree, statesOk, triggerOk};
 ghost use Rattle.accepted.specs.Refusal.{planFits};
 
 // The most alternatives of a situation, literals of an alternative, actions of a list, branches of a state.
@@ -254,12 +256,23 @@ fn states_ok(bytes: &[u8], at: usize) -> bool
 
 // ---- Plans
 
+// Whether a plan's trigger has a kind, and a variable to choose by or none.
+fn trigger_ok(library: &[u8], plan: usize) -> bool
+    ensures { λ r. ⌜ r ≡ triggerOk (planOf (now (library .entry)) plan .kind) (planOf (now (library .entry)) plan .least) ⌝ }
+{
+    let kind = trigger_kind(library, plan);
+    if LAST_KIND < kind {
+        return false;
+    }
+    let least = trigger_least(library, plan) as usize;
+    least <= VARIABLES
+}
+
 // Whether a plan keeps the rules and has as many bytes as its entry says.
 pub(crate) fn plan_fits(library: &[u8], plan: usize) -> bool
     ensures { λ r. ⌜ r ≡ planFits (now (library .entry)) plan ⌝ }
 {
-    let kind = trigger_kind(library, plan);
-    if LAST_KIND < kind {
+    if !trigger_ok(library, plan) {
         return false;
     }
     let context = context_offset(library, plan);

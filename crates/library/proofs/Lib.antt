@@ -1,3 +1,4 @@
 pub mod PastEnd
+pub mod FieldLaws
 pub mod RowLaws
 pub mod PartLaws

@@ -1,6 +1,6 @@
 -- Where the parts of a library and of a plan stand (document 01, "Library"), and the library as a value.
 -- `..Off bytes off` is the offset of a part of the plan at off, `..End` the offset past it.
-use Prim.Native.Nat.{ℕ, _+_, _*_}
+use Prim.Native.Nat.{ℕ, _+_, _*_, _/_, _%_}
 use mathlib.Core.List.{List}
 use Rattle.literal.specs.declared.Literal.{Literal}
 use Rattle.library.specs.declared.Action.{Action}
@@ -51,10 +51,18 @@ statesOff bytes off = actionsEnd bytes (failureOff bytes off)
 unfoldable pub planEnd : List ℕ → ℕ → ℕ
 planEnd bytes off = statesEnd bytes (statesOff bytes off)
 
+-- the kind field: the kind, with 16 × (v + 1) added where the least value of Vv chooses
+abbrev pub kindIn : ℕ → ℕ
+kindIn field = field % 16
+
+abbrev pub leastIn : ℕ → ℕ
+leastIn field = field / 16
+
 unfoldable pub planAt : List ℕ → ℕ → Plan
 planAt bytes off =
     record {
-      kind = u16At bytes off;
+      kind = kindIn (u16At bytes off);
+      least = leastIn (u16At bytes off);
       trigger = literalAt bytes (off + 2);
       context = situationAt bytes (contextOff off);
       maintenance = situationAt bytes (maintenanceOff bytes off);

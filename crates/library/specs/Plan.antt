@@ -13,6 +13,8 @@ Situation = List (List Literal)
 pub record Plan : Type 0 where
   -- 0 belief added, 1 belief removed, 2 told, 3 achieve, 4 query
   pub kind : ℕ
+  -- v + 1 where the solution with the least value of the variable Vv is used, 0 where the first is
+  pub least : ℕ
   pub trigger : Literal
   pub context : Situation
   pub maintenance : Situation
@@ -37,4 +39,4 @@ abbrev pub noBranch : Branch
 noBranch = record { kind = 0; literal = noLiteral; next = 0 }
 
 abbrev pub noPlan : Plan
-noPlan = record { kind = 0; trigger = noLiteral; context = []; maintenance = []; success = []; failure = []; states = [] }
+noPlan = record { kind = 0; least = 0; trigger = noLiteral; context = []; maintenance = []; success = []; failure = []; states = [] }

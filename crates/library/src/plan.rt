@@ -24,6 +24,9 @@ ghost use Rattle.library.specs.Layout.{contextOff, maintenanceOff, succe
 // How many bytes a plan's trigger has: its kind and its literal.
 const TRIGGER_BYTES: usize = 10;
 
+// A trigger's kind field is its kind, with this many times v + 1 added where the least value of Vv chooses.
+const LEAST_FACTOR: u16 = 16;
+
 // ---- Past the parts of a plan
 
 // The offset past n rows of items of `width` bytes.
@@ -74,7 +77,17 @@ pub fn trigger_kind(library: &[u8], plan: usize) -> u16
     ensures { λ r. ⌜ r ≡ planOf (now (library .entry)) plan .kind ⌝ }
 {
     let off = entry_offset(library, plan) as usize;
-    u16_at(library, off)
+    let field = u16_at(library, off);
+    field % LEAST_FACTOR
+}
+
+// Which variable's least value chooses a solution: v + 1 for Vv; 0 where the first is used.
+pub fn trigger_least(library: &[u8], plan: usize) -> u16
+    ensures { λ r. ⌜ r ≡ planOf (now (library .entry)) plan .least ⌝ }
+{
+    let off = entry_offset(library, plan) as usize;
+    let field = u16_at(library, off);
+    field / LEAST_FACTOR
 }
 
 pub fn trigger(library: &[u8], plan: usize) -> Literal

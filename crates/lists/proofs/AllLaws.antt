@@ -1,4 +1,4 @@
--- What a test of a whole list says at a place of it, and after one element is changed.
+-- What a test of a whole list says at a place of it, for a weaker test, and after one element is changed.
 use Prim.Native.Nat.{ℕ, zero, suc, _<_}
 use mathlib.Core.Path.{_≡_, refl}
 use mathlib.Core.Bool.{Bool, true, false, not}
@@ -15,6 +15,14 @@ module _ {A : Type 0} where
   all-at test [] i d e h = absurd (omega arith)
   all-at test (x ∷ xs) zero d e h = and-parts (test x) (all test xs) e .0
   all-at test (x ∷ xs) (suc i) d e h = all-at test xs i d (and-parts (test x) (all test xs) e .1) (omega arith)
+
+  -- what passes one test passes another
+  pub all-weaker : (one two : A → Bool) → ((x : A) → one x ≡ true → two x ≡ true) → (xs : List A) → all one xs ≡ true → all two xs ≡ true
+  unfolding all
+  all-weaker one two h [] e = refl
+  all-weaker one two h (x ∷ xs) e =
+      let parts = and-parts (one x) (all one xs) e in
+      and-both (two x) (all two xs) (h x (parts .0)) (all-weaker one two h xs (parts .1))
 
   pub all-set : (test : A → Bool) (xs : List A) (i : ℕ) (x : A) → all test xs ≡ true → test x ≡ true → all test (set xs i x) ≡ true
   unfolding all

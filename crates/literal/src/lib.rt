@@ -8,9 +8,9 @@ ghost use Rattle.literal.specs.Environment.{value, instantiate, emptyEnv
 ghost use Rattle.literal.specs.Match.{matchTerm, matchLiteral, answer};
 
 // Terms from this number on are the variables V0 to V7, and lower ones are constants.
-const FIRST_VARIABLE: u16 = 65528;
+pub const FIRST_VARIABLE: u16 = 65528;
 
-const VARIABLES: usize = 8;
+pub const VARIABLES: usize = 8;
 // What a negative literal's head has above its predicate.
 const NEGATIVE: u16 = 32768;
 

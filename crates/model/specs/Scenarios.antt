@@ -60,20 +60,25 @@ action kind predicate = record { kind = kind; literal = lit predicate V0 }
 abbrev always : Situation
 always = [] ∷ []
 
+-- told +1 V0: a plan with its lists and states
+abbrev whenTold : List Action → List Action → List (List Branch) → Plan
+whenTold success failure states =
+    record {
+      kind = 2;
+      least = 0;
+      trigger = lit 1 V0;
+      context = always;
+      maintenance = always;
+      success = success;
+      failure = failure;
+      states = states;
+    }
+
 -- ---- Two jobs side by side take turns
 
 -- told +1 V0: add +7 V0, add +8 V0
 abbrev twoAdds : Plan
-twoAdds =
-    record {
-      kind = 2;
-      trigger = lit 1 V0;
-      context = always;
-      maintenance = always;
-      success = [];
-      failure = [];
-      states = (branch 0 7 1 ∷ []) ∷ (branch 0 8 2 ∷ []) ∷ [] ∷ [];
-    }
+twoAdds = whenTold [] [] ((branch 0 7 1 ∷ []) ∷ (branch 0 8 2 ∷ []) ∷ [] ∷ [])
 
 abbrev turns : Scenario
 turns =
@@ -89,22 +94,14 @@ turns =
 
 -- told +1 V0: achieve +2 V0 or query +3 V0
 abbrev poster : Plan
-poster =
-    record {
-      kind = 2;
-      trigger = lit 1 V0;
-      context = always;
-      maintenance = always;
-      success = action 1 7 ∷ [];
-      failure = action 0 8 ∷ [];
-      states = (branch 3 2 1 ∷ branch 4 3 2 ∷ []) ∷ [] ∷ [] ∷ [];
-    }
+poster = whenTold (action 1 7 ∷ []) (action 0 8 ∷ []) ((branch 3 2 1 ∷ branch 4 3 2 ∷ []) ∷ [] ∷ [] ∷ [])
 
 -- achieve +2 V0, where +4 V0 holds: act +9 V0
 abbrev firstWay : Plan
 firstWay =
     record {
       kind = 3;
+      least = 0;
       trigger = lit 2 V0;
       context = (lit 4 V0 ∷ []) ∷ [];
       maintenance = always;
@@ -118,6 +115,7 @@ abbrev secondWay : Plan
 secondWay =
     record {
       kind = 3;
+      least = 0;
       trigger = lit 2 V0;
       context = always;
       maintenance = [];
@@ -169,18 +167,10 @@ addOn variable predicate = record { kind = 0; literal = lit predicate variable }
 -- the first three branches are not ground; a query binds V1; its opposite held, and not ground; held already; absent; done
 abbrev kinds : Plan
 kinds =
-    record {
-      kind = 2;
-      trigger = lit 1 V0;
-      context = always;
-      maintenance = always;
-      success = addOn V2 20 ∷ addOn V1 21 ∷ [];
-      failure = [];
-      states =
-          (branchOn V1 2 9 1 ∷ branchOn V1 0 10 1 ∷ branchOn V1 1 11 1 ∷ branchOn V1 4 4 1 ∷ [])
-          ∷ (branch 4 5 2 ∷ branchOn V2 3 2 2 ∷ branch 3 6 2 ∷ [])
-          ∷ (branchOn V1 1 12 3 ∷ []) ∷ (branchOn V1 2 9 4 ∷ []) ∷ [] ∷ [];
-    }
+    whenTold (addOn V2 20 ∷ addOn V1 21 ∷ []) []
+    ((branchOn V1 2 9 1 ∷ branchOn V1 0 10 1 ∷ branchOn V1 1 11 1 ∷ branchOn V1 4 4 1 ∷ [])
+    ∷ (branch 4 5 2 ∷ branchOn V2 3 2 2 ∷ branch 3 6 2 ∷ [])
+    ∷ (branchOn V1 1 12 3 ∷ []) ∷ (branchOn V1 2 9 4 ∷ []) ∷ [] ∷ [])
 
 -- +4 7, -5 5 and +6 5 are held
 abbrev branches : Scenario
@@ -198,16 +188,7 @@ branches =
 
 -- told +1 V0: act +9 V0, add +7 V0
 abbrev actsFirst : Plan
-actsFirst =
-    record {
-      kind = 2;
-      trigger = lit 1 V0;
-      context = always;
-      maintenance = always;
-      success = [];
-      failure = [];
-      states = (branch 2 9 1 ∷ []) ∷ (branch 0 7 2 ∷ []) ∷ [] ∷ [];
-    }
+actsFirst = whenTold [] [] ((branch 2 9 1 ∷ []) ∷ (branch 0 7 2 ∷ []) ∷ [] ∷ [])
 
 abbrev outcomes : Scenario
 outcomes =
@@ -222,16 +203,7 @@ outcomes =
 
 -- achieves +2 V0, for which there is no plan
 abbrev posts : Plan
-posts =
-    record {
-      kind = 2;
-      trigger = lit 1 V0;
-      context = always;
-      maintenance = always;
-      success = [];
-      failure = [];
-      states = (branch 3 2 1 ∷ []) ∷ [] ∷ [];
-    }
+posts = whenTold [] [] ((branch 3 2 1 ∷ []) ∷ [] ∷ [])
 
 abbrev nineReports : List Call → List Call
 nineReports rest =
@@ -253,7 +225,8 @@ eight =
 
 -- fails at its first turn
 abbrev broken : Plan
-broken = record { kind = 2; trigger = lit 1 V0; context = always; maintenance = []; success = []; failure = []; states = [] ∷ [] }
+broken =
+    record { kind = 2; least = 0; trigger = lit 1 V0; context = always; maintenance = []; success = []; failure = []; states = [] ∷ [] }
 
 abbrev inPlace : Scenario
 inPlace =
@@ -300,16 +273,7 @@ beliefsOf n = map (lit 7) (downFrom n)
 
 -- told +1 V0: add +7 V0, add +8 V0; on failure add +8 V0, remove +7 V0
 abbrev overfills : Plan
-overfills =
-    record {
-      kind = 2;
-      trigger = lit 1 V0;
-      context = always;
-      maintenance = always;
-      success = [];
-      failure = action 0 8 ∷ action 1 7 ∷ [];
-      states = (branch 0 7 1 ∷ []) ∷ (branch 0 8 2 ∷ []) ∷ [] ∷ [];
-    }
+overfills = whenTold [] (action 0 8 ∷ action 1 7 ∷ []) ((branch 0 7 1 ∷ []) ∷ (branch 0 8 2 ∷ []) ∷ [] ∷ [])
 
 abbrev full : Scenario
 full =
@@ -345,16 +309,7 @@ turning answer changes = record { answer = answer; changes = changes }
 
 -- told +1 V0: add -4 V0; succeeded: add -2 V0, +2 V0, -3 V0, +3 V0
 abbrev turner : Plan
-turner =
-    record {
-      kind = 2;
-      trigger = lit 1 V0;
-      context = always;
-      maintenance = always;
-      success = action 0 32770 ∷ action 0 2 ∷ action 0 32771 ∷ action 0 3 ∷ [];
-      failure = [];
-      states = (branch 0 32772 1 ∷ []) ∷ [] ∷ [];
-    }
+turner = whenTold (action 0 32770 ∷ action 0 2 ∷ action 0 32771 ∷ action 0 3 ∷ []) [] ((branch 0 32772 1 ∷ []) ∷ [] ∷ [])
 
 abbrev opposites : Scenario
 opposites =
@@ -368,9 +323,32 @@ opposites =
     (turned (lit 2 5) (neg 2 5) ++ (turned (neg 2 5) (lit 2 5) ++ (turned (lit 3 5) (neg 3 5) ++ turned (neg 3 5) (lit 3 5))))
     ∷ plain Idle ∷ [])
 
+-- ---- The shortest offcut is used first (request 12)
+
+-- told +1 V0, with the offcut +3 V1 of least length: remove +3 V1
+abbrev usesShortest : Plan
+usesShortest =
+    record {
+      kind = 2;
+      least = 2;
+      trigger = lit 1 V0;
+      context = (lit 3 V1 ∷ []) ∷ [];
+      maintenance = always;
+      success = record { kind = 1; literal = lit 3 V1 } ∷ [];
+      failure = [];
+      states = [] ∷ [];
+    }
+
+abbrev shortest : Scenario
+shortest =
+    fromLoaded (record { beliefs = lit 3 7 ∷ lit 3 5 ∷ lit 3 6 ∷ []; plans = usesShortest ∷ [] })
+    (report 2 (lit 1 1) ∷ cycle ∷ cycle ∷ report 2 (lit 1 2) ∷ cycle ∷ cycle ∷ [])
+    (plain (Taken 1) ∷ plain (MadeExternal 1 0 1) ∷ removing (Succeeded 1) (lit 3 5)
+    ∷ plain (Taken 2) ∷ plain (MadeExternal 2 0 2) ∷ removing (Succeeded 2) (lit 3 6) ∷ [])
+
 abbrev pub scenarios : List Scenario
 scenarios =
-    opposites ∷ turns ∷ unmet ∷ met ∷ branches ∷ outcomes ∷ eight ∷ inPlace ∷ effects ∷ applies ∷ drops ∷ full ∷ illFormed ∷ []
+    shortest ∷ opposites ∷ turns ∷ unmet ∷ met ∷ branches ∷ outcomes ∷ eight ∷ inPlace ∷ effects ∷ applies ∷ drops ∷ full ∷ illFormed ∷ []
 
 -- ---- Which refusal of a report comes first
 

@@ -3,10 +3,10 @@ use Prim.Native.Nat.{ℕ, suc, _+_, _-_, _<_, _≤_}
 use native.Mathlib.Nat.{sub-eq-zero-of-le}
 use native.Mathlib.Numerals.{add-one}
 use native.Mathlib.Omega.{arith}
-use mathlib.Core.Path.{_≡_, refl, ap, sym, _∙_}
+use mathlib.Core.Path.{_≡_, ap, sym, _∙_}
 use mathlib.Core.Bool.{true, false}
 use mathlib.Core.Option.{Option, none, some}
-use mathlib.Core.List.{List, [], _∷_, foldl}
+use mathlib.Core.List.{List, []}
 use borrow.Author.Tests.{eq-eqb, ne-eqb}
 use Rattle.literal.specs.declared.Literal.{Literal}
 use Rattle.literal.specs.declared.Env.{Env}
@@ -14,10 +14,10 @@ use Rattle.literal.specs.declared.Match.{Match}
 use Rattle.library.specs.Plan.{Plan}
 use Rattle.library.specs.Bytes.{items}
 use Rattle.situation.specs.FailedSet.{has}
-use Rattle.situation.specs.Solutions.{solutions, firstOf}
-use Rattle.situation.specs.Search.{solutionOf, consider}
-use Rattle.situation.specs.Applicable.{Applicable, triggered, planSolutions, orNext, applicableFrom, firstChosen}
-use Rattle.situation.proofs.KeepLaws.{keeps-first, solution-found, solution-none}
+use Rattle.situation.specs.Solutions.{solutions}
+use Rattle.situation.specs.Search.{solutionOf, bestOf}
+use Rattle.situation.specs.Applicable.{triggered, planSolutions, ruleOf, planStart, applicableFrom, firstChosen}
+use Rattle.situation.proofs.KeepLaws.{solution-found, solution-none}
 
 -- ---- The solutions of a plan's context
 
@@ -41,42 +41,37 @@ module _ (beliefs : List Literal) (kind : ℕ) (literal : Literal) (failed numbe
       unfolding planSolutions
       plan-triggered env q = rw (e, eq-eqb _ _ p, q)
 
-      -- what the search of the context keeps is the plan's first solution
-      pub plan-first : (env : Env) (found : Option Env) → triggered (plan .trigger) literal ≡ some env
-          → found ≡ foldl consider none (solutions beliefs (plan .context) env) → found ≡ firstOf (planSolutions beliefs kind literal failed number plan)
-      plan-first env found q r = r ∙ keeps-first (solutions beliefs (plan .context) env) ∙ sym (ap firstOf (plan-triggered env q))
+      -- what the search of the context keeps is what the plan starts with
+      pub plan-starts : (env : Env) (found : Option Env) → triggered (plan .trigger) literal ≡ some env
+          → found ≡ bestOf (ruleOf plan) (solutions beliefs (plan .context) env) → found ≡ planStart beliefs kind literal failed number plan
+      unfolding planStart
+      plan-starts env found q r = r ∙ sym (ap (bestOf (ruleOf plan)) (plan-triggered env q))
+
+  -- a plan without solutions does not start
+  pub no-start : planSolutions beliefs kind literal failed number plan ≡ [] → none ≡ planStart beliefs kind literal failed number plan
+  unfolding planStart bestOf
+  no-start e = rw e
 
 -- ---- The first applicable plan
-
-first-hit : (number : ℕ) (envs : List Env) (env : Env) (others : List Applicable) → firstOf envs ≡ some env
-    → firstChosen (orNext number envs others) ≡ some (record { plan = number; env = env })
-unfolding firstOf
-first-hit number [] env others e = cc
-first-hit number (x ∷ xs) env others e = let p : x ≡ env = cc in rw p
-
-first-miss : (number : ℕ) (envs : List Env) (others : List Applicable) → firstOf envs ≡ none → firstChosen (orNext number envs others) ≡ firstChosen others
-unfolding firstOf
-first-miss number [] others e = refl
-first-miss number (x ∷ xs) others e = let p : _≡_ {A = ℕ} 0 1 = cc in absurd (omega arith)
 
 -- the plans from p on, of n that `read` gives
 module _ (beliefs : List Literal) (kind : ℕ) (literal : Literal) (failed : ℕ) (read : ℕ → Plan) (p n : ℕ) where
   one-more : p < n → n - p ≡ suc (n - (p + 1))
   one-more h = let e : n - p ≡ n - (p + 1) + 1 = omega arith in e ∙ add-one (n - (p + 1))
 
-  module _ (m : Match) (h : p < n) (e : solutionOf m ≡ firstOf (planSolutions beliefs kind literal failed p (read p))) where
+  module _ (m : Match) (h : p < n) (e : solutionOf m ≡ planStart beliefs kind literal failed p (read p)) where
     -- the plan p applies
     pub choose-hit : m .found ≡ true
         → some (record { plan = p; env = m .env }) ≡ firstChosen (applicableFrom beliefs kind literal failed p (items read 1 (n - p) p))
     unfolding applicableFrom items
-    choose-hit q = rw (one-more h) (sym (first-hit p _ (m .env) _ (solution-found m _ e q)))
+    choose-hit q = rw (one-more h, solution-found m _ e q)
 
     -- it does not
     pub choose-miss : m .found ≡ false
         → firstChosen (applicableFrom beliefs kind literal failed (p + 1) (items read 1 (n - (p + 1)) (p + 1)))
         ≡ firstChosen (applicableFrom beliefs kind literal failed p (items read 1 (n - p) p))
     unfolding applicableFrom items
-    choose-miss q = rw (one-more h) (sym (first-miss p _ _ (solution-none m _ e q) ∙ rw (add-one p)))
+    choose-miss q = rw (one-more h, solution-none m _ e q, add-one p)
 
   -- none is left
   pub choose-end : n ≤ p → none ≡ firstChosen (applicableFrom beliefs kind literal failed p (items read 1 (n - p) p))

@@ -1,4 +1,4 @@
--- What is chosen: the first plan in library order that has a solution, with the first of its solutions; none only where no plan has one.
+-- What is chosen: the first plan in library order that has a solution, with the one that its rule keeps; none only where no plan has one.
 use Prim.Native.Nat.{ℕ, zero, suc, _+_, _<_}
 use native.Mathlib.Nat.{zero-add, add-zero}
 use native.Mathlib.Omega.{arith}
@@ -20,89 +20,91 @@ use Rattle.literal.proofs.EnvLaws.{empty-env}
 use Rattle.literal.proofs.MatchLaws.{match-env}
 use Rattle.library.specs.Plan.{Plan, noPlan}
 use Rattle.situation.specs.FailedSet.{has}
-use Rattle.situation.specs.Solutions.{solutions, firstOf}
-use Rattle.situation.specs.Applicable.{Chosen, triggered, planSolutions, orNext, applicableFrom, firstChosen, choose}
-use Rattle.situation.proofs.ChoiceLaws.{plan-failed, plan-other-kind, plan-not-triggered, plan-triggered}
-use Rattle.situation.proofs.SolutionLaws.{first-env}
+use Rattle.situation.specs.Solutions.{solutions}
+use Rattle.situation.specs.Search.{bestOf}
+use Rattle.situation.specs.Applicable.{Chosen, triggered, planSolutions, ruleOf, planStart, orNext, applicableFrom, firstChosen, choose}
+use Rattle.situation.proofs.ChoiceLaws.{no-start, plan-failed, plan-other-kind, plan-not-triggered, plan-triggered}
+use Rattle.situation.proofs.SolutionLaws.{solutions-env}
+use Rattle.situation.proofs.KeepLaws.{best-passes}
 
 module _ (beliefs : List Literal) (kind : ℕ) (literal : Literal) (failed : ℕ) where
   -- ---- The first in library order
 
-  -- the solutions of the plan at a place of a list whose first plan has the number `from`
-  abbrev pub solutionsAt : ℕ → List Plan → ℕ → List Env
-  solutionsAt from plans place = planSolutions beliefs kind literal failed (from + place) (getD plans place noPlan)
+  -- what the plan would start with at a place of a list whose first plan has the number `from`
+  abbrev pub startAt : ℕ → List Plan → ℕ → Option Env
+  startAt from plans place = planStart beliefs kind literal failed (from + place) (getD plans place noPlan)
 
-  -- the plan at a place is chosen: it has a first solution, and no plan before it has any
+  -- the plan at a place is chosen: it has a solution, and no plan before it has any
   pub record FirstAt (from : ℕ) (plans : List Plan) (place : ℕ) (chosen : Chosen) : Type 0 where
     pub exists : place < length plans
     pub number : chosen .plan ≡ from + place
-    pub solved : firstOf (solutionsAt from plans place) ≡ some (chosen .env)
-    pub earlier : (i : ℕ) → i < place → solutionsAt from plans i ≡ []
+    pub solved : startAt from plans place ≡ some (chosen .env)
+    pub earlier : (i : ℕ) → i < place → startAt from plans i ≡ none
 
   module _ (from : ℕ) (plan : Plan) (plans : List Plan) where
-    here : solutionsAt from (plan ∷ plans) 0 ≡ planSolutions beliefs kind literal failed from plan
+    here : startAt from (plan ∷ plans) 0 ≡ planStart beliefs kind literal failed from plan
     here = rw (add-zero from)
 
-    next : (i : ℕ) → solutionsAt from (plan ∷ plans) (suc i) ≡ solutionsAt (suc from) plans i
+    next : (i : ℕ) → startAt from (plan ∷ plans) (suc i) ≡ startAt (suc from) plans i
     next i = let e : from + suc i ≡ suc from + i = omega arith in rw e
 
     -- the plan itself
-    first-here : (env : Env) (chosen : Chosen) → firstOf (planSolutions beliefs kind literal failed from plan) ≡ some env → some (record { plan = from; env = env }) ≡ some chosen
+    first-here : (env : Env) (chosen : Chosen) → planStart beliefs kind literal failed from plan ≡ some env → some (record { plan = from; env = env }) ≡ some chosen
         → FirstAt from (plan ∷ plans) 0 chosen
     first-here env chosen e p =
         let q = some-equal p in
         record {
           exists = omega arith;
           number = omega (arith, ap (λ (c : Chosen). c .plan) q);
-          solved = ap firstOf here ∙ e ∙ ap (λ (c : Chosen). some (c .env)) q;
+          solved = here ∙ e ∙ ap (λ (c : Chosen). some (c .env)) q;
           earlier = λ i h. absurd (omega arith);
         }
 
     -- a later one, where the plan has no solution
-    first-later : (place : ℕ) (chosen : Chosen) → planSolutions beliefs kind literal failed from plan ≡ [] → FirstAt (suc from) plans place chosen → FirstAt from (plan ∷ plans) (suc place) chosen
+    first-later : (place : ℕ) (chosen : Chosen) → planStart beliefs kind literal failed from plan ≡ none → FirstAt (suc from) plans place chosen → FirstAt from (plan ∷ plans) (suc place) chosen
     first-later place chosen e first = record {
       exists = omega (arith, first .exists);
       number = omega (arith, first .number);
-      solved = ap firstOf (next place) ∙ first .solved;
+      solved = next place ∙ first .solved;
       earlier = before;
     }
       where
-        before : (i : ℕ) → i < suc place → solutionsAt from (plan ∷ plans) i ≡ []
+        before : (i : ℕ) → i < suc place → startAt from (plan ∷ plans) i ≡ none
         before zero h = here ∙ e
         before (suc i) h = next i ∙ first .earlier i (omega arith)
 
   first-from : (from : ℕ) (plans : List Plan) (chosen : Chosen) → firstChosen (applicableFrom beliefs kind literal failed from plans) ≡ some chosen
       → (place : ℕ) × FirstAt from plans place chosen
-  unfolding applicableFrom firstOf
+  unfolding applicableFrom
   first-from from [] chosen e = none-some e
-  first-from from (plan ∷ plans) chosen e = go (planSolutions beliefs kind literal failed from plan) refl (first-from (suc from) plans chosen) e
+  first-from from (plan ∷ plans) chosen e = go (planStart beliefs kind literal failed from plan) refl (first-from (suc from) plans chosen) e
     where
-      go : (envs : List Env) → planSolutions beliefs kind literal failed from plan ≡ envs
+      go : (start : Option Env) → planStart beliefs kind literal failed from plan ≡ start
           → (firstChosen (applicableFrom beliefs kind literal failed (suc from) plans) ≡ some chosen → (place : ℕ) × FirstAt (suc from) plans place chosen)
-          → firstChosen (orNext from envs (applicableFrom beliefs kind literal failed (suc from) plans)) ≡ some chosen
+          → firstChosen (orNext from start (applicableFrom beliefs kind literal failed (suc from) plans)) ≡ some chosen
           → (place : ℕ) × FirstAt from (plan ∷ plans) place chosen
-      go [] p others e = let (place, first) = others e in (suc place, first-later from plan plans place chosen p first)
-      go (env ∷ envs) p others e = (0, first-here from plan plans env chosen (ap firstOf p) e)
+      go none p others e = let (place, first) = others e in (suc place, first-later from plan plans place chosen p first)
+      go (some env) p others e = (0, first-here from plan plans env chosen p e)
 
   none-from : (from : ℕ) (plans : List Plan) → firstChosen (applicableFrom beliefs kind literal failed from plans) ≡ none
-      → (i : ℕ) → i < length plans → solutionsAt from plans i ≡ []
-  unfolding applicableFrom firstOf
+      → (i : ℕ) → i < length plans → startAt from plans i ≡ none
+  unfolding applicableFrom
   none-from from [] e i h = absurd (omega arith)
-  none-from from (plan ∷ plans) e i h = go (planSolutions beliefs kind literal failed from plan) refl (none-from (suc from) plans) e i h
+  none-from from (plan ∷ plans) e i h = go (planStart beliefs kind literal failed from plan) refl (none-from (suc from) plans) e i h
     where
-      go : (envs : List Env) → planSolutions beliefs kind literal failed from plan ≡ envs
-          → (firstChosen (applicableFrom beliefs kind literal failed (suc from) plans) ≡ none → (i : ℕ) → i < length plans → solutionsAt (suc from) plans i ≡ [])
-          → firstChosen (orNext from envs (applicableFrom beliefs kind literal failed (suc from) plans)) ≡ none
-          → (i : ℕ) → i < suc (length plans) → solutionsAt from (plan ∷ plans) i ≡ []
-      go [] p others e zero h = here from plan plans ∙ p
-      go [] p others e (suc i) h = next from plan plans i ∙ others e i (omega arith)
-      go (env ∷ envs) p others e i h = none-some (sym e)
+      go : (start : Option Env) → planStart beliefs kind literal failed from plan ≡ start
+          → (firstChosen (applicableFrom beliefs kind literal failed (suc from) plans) ≡ none → (i : ℕ) → i < length plans → startAt (suc from) plans i ≡ none)
+          → firstChosen (orNext from start (applicableFrom beliefs kind literal failed (suc from) plans)) ≡ none
+          → (i : ℕ) → i < suc (length plans) → startAt from (plan ∷ plans) i ≡ none
+      go none p others e zero h = here from plan plans ∙ p
+      go none p others e (suc i) h = next from plan plans i ∙ others e i (omega arith)
+      go (some env) p others e i h = none-some (sym e)
 
-  -- the plan that is chosen is the first in library order that has a solution, with the first of its solutions
+  -- the plan that is chosen is the first in library order that has a solution, with the one that its rule keeps
   pub record First (plans : List Plan) (chosen : Chosen) : Type 0 where
     pub exists : chosen .plan < length plans
-    pub solved : firstOf (planSolutions beliefs kind literal failed (chosen .plan) (getD plans (chosen .plan) noPlan)) ≡ some (chosen .env)
-    pub earlier : (i : ℕ) → i < chosen .plan → planSolutions beliefs kind literal failed i (getD plans i noPlan) ≡ []
+    pub solved : planStart beliefs kind literal failed (chosen .plan) (getD plans (chosen .plan) noPlan) ≡ some (chosen .env)
+    pub earlier : (i : ℕ) → i < chosen .plan → planStart beliefs kind literal failed i (getD plans i noPlan) ≡ none
 
   pub choose-first : (plans : List Plan) (chosen : Chosen) → choose beliefs kind literal failed plans ≡ some chosen → First plans chosen
   unfolding choose
@@ -117,16 +119,15 @@ module _ (beliefs : List Literal) (kind : ℕ) (literal : Literal) (failed : ℕ
 
   -- none is chosen only where no plan has a solution
   pub choose-none : (plans : List Plan) → choose beliefs kind literal failed plans ≡ none
-      → (i : ℕ) → i < length plans → planSolutions beliefs kind literal failed i (getD plans i noPlan) ≡ []
+      → (i : ℕ) → i < length plans → planStart beliefs kind literal failed i (getD plans i noPlan) ≡ none
   unfolding choose
   choose-none plans e i h = rw zero-add at (none-from 0 plans e i h)
 
   -- ---- A plan with a solution
 
-  module _ (number : ℕ) (plan : Plan) (env : Env) (e : firstOf (planSolutions beliefs kind literal failed number plan) ≡ some env) where
+  module _ (number : ℕ) (plan : Plan) (env : Env) (e : planStart beliefs kind literal failed number plan ≡ some env) where
     none-absurd : {P : Type 0} → planSolutions beliefs kind literal failed number plan ≡ [] → P
-    unfolding firstOf
-    none-absurd p = none-some (sym (ap firstOf p) ∙ e)
+    none-absurd p = none-some (no-start beliefs kind literal failed number plan p ∙ e)
 
     -- it has not failed
     pub chosen-fresh : has failed number ≡ false
@@ -140,20 +141,22 @@ module _ (beliefs : List Literal) (kind : ℕ) (literal : Literal) (failed : ℕ
         (λ p. none-absurd (plan-other-kind beliefs kind literal failed number plan chosen-fresh (eqb-false (plan .kind) kind p)))
 
     -- its trigger matches the event's literal, and its solutions are those of its context from there
-    pub chosen-start : (start : Env) × (triggered (plan .trigger) literal ≡ some start) × (firstOf (solutions beliefs (plan .context) start) ≡ some env)
+    pub chosen-start : (start : Env) × (triggered (plan .trigger) literal ≡ some start) × (bestOf (ruleOf plan) (solutions beliefs (plan .context) start) ≡ some env)
+    unfolding planStart
     chosen-start = go (triggered (plan .trigger) literal) refl
       where
         go : (o : Option Env) → triggered (plan .trigger) literal ≡ o
-            → (start : Env) × (triggered (plan .trigger) literal ≡ some start) × (firstOf (solutions beliefs (plan .context) start) ≡ some env)
+            → (start : Env) × (triggered (plan .trigger) literal ≡ some start) × (bestOf (ruleOf plan) (solutions beliefs (plan .context) start) ≡ some env)
         go none p = none-absurd (plan-not-triggered beliefs kind literal failed number plan chosen-fresh chosen-kind p)
-        go (some start) p = (start, p, sym (ap firstOf (plan-triggered beliefs kind literal failed number plan chosen-fresh chosen-kind start p)) ∙ e)
+        go (some start) p = (start, p, sym (ap (bestOf (ruleOf plan)) (plan-triggered beliefs kind literal failed number plan chosen-fresh chosen-kind start p)) ∙ e)
 
-    -- its first solution is an environment
+    -- the solution that it starts with is an environment
     pub chosen-env : all isGround beliefs ≡ true → isGround literal ≡ true → isEnv env ≡ true
     unfolding triggered
     chosen-env beliefs-ground ground =
         let (start, p, q) = chosen-start in
-        first-env beliefs beliefs-ground (plan .context) start env (match-env (plan .trigger) literal emptyEnv start p ground empty-env) q
+        best-passes (ruleOf plan) isEnv (solutions beliefs (plan .context) start) env
+        (solutions-env beliefs beliefs-ground (plan .context) start (match-env (plan .trigger) literal emptyEnv start p ground empty-env)) q
 
 -- ---- What a chosen plan is apt for
 

@@ -5,3 +5,4 @@ pub mod FailedLaws
 pub mod ChoiceLaws
 pub mod SolutionLaws
 pub mod ChosenLaws
+pub mod LeastLaws

@@ -88,9 +88,6 @@ module _ (beliefs : List Literal) (ground : all isGround beliefs ≡ true) where
   pub solutions-env : (situation : Situation) (env : Env) → isEnv env ≡ true → all isEnv (solutions beliefs situation env) ≡ true
   solutions-env = solutions-pass isEnv env-kept beliefs ground
 
-  pub first-env : (situation : Situation) (env found : Env) → isEnv env ≡ true → firstOf (solutions beliefs situation env) ≡ some found → isEnv found ≡ true
-  first-env situation env found h e = first-passes isEnv (solutions beliefs situation env) found (solutions-env situation env h) e
-
   pub ask-env : (l : Literal) (env next : Env) → isEnv env ≡ true → ask beliefs l env ≡ some next → isEnv next ≡ true
   ask-env = ask-passes isEnv env-kept beliefs ground
 

@@ -1,6 +1,6 @@
--- Applicable plans and the choice of one (document 01, "Cycle"; dMARS 8.2, relplans and applplans; 8.1, planselect).
--- Departs from dMARS: library order and the first solution choose; plans that failed for an event are left out by number, where 8.3
--- (NewPlanInst) leaves out failed plan instances, for goal events alone.
+-- Applicable plans and the choice of one (document 01, "Cycle"; document 02, request 12; dMARS 8.2, relplans and applplans; 8.1, planselect).
+-- Departs from dMARS: library order chooses, then the first solution or the least by the plan's mark (request 12); plans that failed for
+-- an event are left out by number, where 8.3 (NewPlanInst) leaves out failed plan instances, for goal events alone.
 use Prim.Native.Nat.{ℕ, suc}
 use mathlib.Core.Bool.{Bool, cond, not, _&&_}
 use mathlib.Core.Option.{Option, none, some}
@@ -12,12 +12,14 @@ use Rattle.literal.specs.Environment.{emptyEnv}
 use Rattle.literal.specs.Match.{matchLiteral}
 use Rattle.library.specs.Plan.{Plan}
 use Rattle.situation.specs.FailedSet.{has}
-use Rattle.situation.specs.Solutions.{onMatch, solutions, firstOf}
+use Rattle.situation.specs.declared.Rule.{Rule}
+use Rattle.situation.specs.Solutions.{onMatch, solutions}
+use Rattle.situation.specs.Search.{bestOf}
 
--- a plan by its number, with the environments that it can start from
-pub record Applicable : Type 0 where
+-- a plan and the environment that its instance starts with
+pub record Chosen : Type 0 where
   pub plan : ℕ
-  pub envs : List Env
+  pub env : Env
 
 -- matching a trigger against an event's literal, from the empty environment
 unfoldable pub triggered : Literal → Literal → Option Env
@@ -32,29 +34,29 @@ unfoldable pub planSolutions : List Literal → ℕ → Literal → ℕ → ℕ 
 planSolutions beliefs kind literal failed number plan =
     cond (isRelevant kind failed number plan) (onMatch (triggered (plan .trigger) literal) (solutions beliefs (plan .context))) []
 
-abbrev pub orNext : ℕ → List Env → List Applicable → List Applicable
-orNext number [] others = others
-orNext number (env ∷ envs) others = record { plan = number; envs = env ∷ envs } ∷ others
+-- how a plan chooses among the solutions of its context
+abbrev pub ruleOf : Plan → Rule
+ruleOf plan = record { least = plan .least }
+
+-- the environment that the plan's instance would start with, if it is applicable
+unfoldable pub planStart : List Literal → ℕ → Literal → ℕ → ℕ → Plan → Option Env
+planStart beliefs kind literal failed number plan = bestOf (ruleOf plan) (planSolutions beliefs kind literal failed number plan)
+
+-- an applicable plan stands before the others
+abbrev pub orNext : ℕ → Option Env → List Chosen → List Chosen
+orNext number none others = others
+orNext number (some env) others = record { plan = number; env = env } ∷ others
 
 -- the applicable plans in library order, from a plan's number on
-unfoldable pub applicableFrom : List Literal → ℕ → Literal → ℕ → ℕ → List Plan → List Applicable
+unfoldable pub applicableFrom : List Literal → ℕ → Literal → ℕ → ℕ → List Plan → List Chosen
 applicableFrom beliefs kind literal failed number [] = []
 applicableFrom beliefs kind literal failed number (plan ∷ plans) =
-    orNext number (planSolutions beliefs kind literal failed number plan) (applicableFrom beliefs kind literal failed (suc number) plans)
+    orNext number (planStart beliefs kind literal failed number plan) (applicableFrom beliefs kind literal failed (suc number) plans)
 
--- a plan and the environment that its instance starts with
-pub record Chosen : Type 0 where
-  pub plan : ℕ
-  pub env : Env
-
-abbrev pub withEnv : ℕ → Option Env → Option Chosen
-withEnv number none = none
-withEnv number (some env) = some (record { plan = number; env = env })
-
-abbrev pub firstChosen : List Applicable → Option Chosen
+abbrev pub firstChosen : List Chosen → Option Chosen
 firstChosen [] = none
-firstChosen (a ∷ others) = withEnv (a .plan) (firstOf (a .envs))
+firstChosen (chosen ∷ others) = some chosen
 
--- the first applicable plan with its first solution
+-- the first applicable plan, with the solution that its rule keeps
 unfoldable pub choose : List Literal → ℕ → Literal → ℕ → List Plan → Option Chosen
 choose beliefs kind literal failed plans = firstChosen (applicableFrom beliefs kind literal failed 0 plans)

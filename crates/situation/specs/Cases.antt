@@ -1,6 +1,8 @@
 -- The small cases 1 to 7 (document 01, "Small cases, held by proof"): each situation's whole list of solutions from the empty environment.
+-- Cases of request 12: which of them is kept.
 use Prim.Native.Nat.{ℕ, _+_}
 use mathlib.Core.Path.{_≡_, refl}
+use mathlib.Core.Option.{Option, none, some}
 use mathlib.Core.List.{List, [], _∷_, map}
 use Rattle.literal.specs.declared.Literal.{Literal}
 use Rattle.literal.specs.declared.Env.{Env}
@@ -9,18 +11,25 @@ use Rattle.literal.specs.Environment.{emptyEnv, value, bind}
 use Rattle.literal.specs.Match.{matchTerm, matchLiteral}
 use Rattle.library.specs.Plan.{Situation}
 use Rattle.situation.specs.Solutions.{overBeliefs, solve, solutions}
+use Rattle.situation.specs.Search.{rankOf, isBefore, consider, bestOf}
 
 -- a literal of two terms; the third is unused
 abbrev lit : ℕ → ℕ → ℕ → Literal
 lit head first second = record { head = head; first = first; second = second; third = 0 }
 
--- the variable V0
+-- the variables V0 and V1
 abbrev v0 : ℕ
 v0 = firstVariable
 
--- V0 is bound, and nothing else
+abbrev v1 : ℕ
+v1 = firstVariable + 1
+
+-- the values of V0 and V1; nothing else is bound
+abbrev valuesAre : ℕ → ℕ → Env
+valuesAre first second = record { terms = first ∷ second ∷ 65530 ∷ 65531 ∷ 65532 ∷ 65533 ∷ 65534 ∷ 65535 ∷ [] }
+
 abbrev v0Is : ℕ → Env
-v0Is constant = record { terms = constant ∷ 65529 ∷ 65530 ∷ 65531 ∷ 65532 ∷ 65533 ∷ 65534 ∷ 65535 ∷ [] }
+v0Is constant = valuesAre constant v1
 
 -- the beliefs +1 5 0 0, +1 6 0 0, +2 6 0 0
 abbrev pub beliefs : List Literal
@@ -52,3 +61,41 @@ cases =
 pub small-cases : map (λ c. solutions beliefs (c .situation) emptyEnv) cases ≡ map (λ c. c .answer) cases
 unfolding value bind matchTerm matchLiteral overBeliefs solve solutions
 small-cases = refl
+
+-- ---- Which solution is kept (request 12)
+
+-- offcuts by length and rack: +3 7 1 0, +3 5 2 0, +3 5 3 0; a bolt of the greatest length: +4 65527 0 0
+abbrev pub offcuts : List Literal
+offcuts = lit 3 7 1 ∷ lit 3 5 2 ∷ lit 3 5 3 ∷ lit 4 65527 0 ∷ []
+
+-- every offcut: V0 its length, V1 its rack
+abbrev anyOffcut : List Literal
+anyOffcut = lit 3 v0 v1 ∷ []
+
+pub record LeastCase : Type 0 where
+  -- 0, or v + 1 where the least value of Vv chooses
+  pub least : ℕ
+  pub situation : Situation
+  pub kept : Option Env
+
+abbrev pub leastCases : List LeastCase
+leastCases =
+    -- the first; by length the shortest, of equal ones the earlier; by rack the lowest
+    record { least = 0; situation = anyOffcut ∷ []; kept = some (valuesAre 7 1) }
+    ∷ record { least = 1; situation = anyOffcut ∷ []; kept = some (valuesAre 5 2) }
+    ∷ record { least = 2; situation = anyOffcut ∷ []; kept = some (valuesAre 7 1) }
+    -- V7, which nothing binds: the first
+    ∷ record { least = 8; situation = anyOffcut ∷ []; kept = some (valuesAre 7 1) }
+    -- an unbound length counts above all constants: from the rack of an offcut of 7, or the bolt
+    ∷ record { least = 1; situation = (lit 3 7 v1 ∷ []) ∷ (lit 4 v0 0 ∷ []) ∷ []; kept = some (valuesAre 65527 v1) }
+    -- two unbound racks are equal, though the lengths differ
+    ∷ record { least = 2; situation = (lit 3 v0 2 ∷ []) ∷ (lit 3 v0 1 ∷ []) ∷ []; kept = some (v0Is 5) }
+    -- no solution: none
+    ∷ record { least = 1; situation = (lit 5 v0 0 ∷ []) ∷ []; kept = none }
+    ∷ []
+
+-- every case of the table has the solution that it states
+pub least-cases : map (λ c. bestOf (record { least = c .least }) (solutions offcuts (c .situation) emptyEnv)) leastCases
+    ≡ map (λ c. c .kept) leastCases
+unfolding value bind matchTerm matchLiteral overBeliefs solve solutions rankOf isBefore consider bestOf
+least-cases = refl

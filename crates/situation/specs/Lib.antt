@@ -4,3 +4,4 @@ pub mod Search
 pub mod Applicable
 pub mod Selected
 pub mod Cases
+pub mod Least

@@ -1,7 +1,6 @@
 // Situations: the search for a solution, what a literal asks of the beliefs, and the choice of a plan for an event.
 ghost use mathlib.Core.Path.{_≡_};
 ghost use mathlib.Core.List.{foldl};
-ghost use mathlib.Core.Option.{none};
 ghost use Prim.Native.Nat.{_+_, _*_, _<_, _^_};
 ghost use Rattle.literal.specs.Environment.{emptyEnv};
 ghost use Rattle.literal.specs.Match.{answer};
@@ -9,8 +8,8 @@ ghost use Rattle.belief.specs.Beliefs.{view};
 ghost use Rattle.library.specs.Bytes.{literalAt, items};
 ghost use Rattle.library.specs.Layout.{situationAt, planOf, libraryOf};
 ghost use Rattle.situation.specs.Solutions.{solve, solutions, firstOf, holdsFrom, ask};
-ghost use Rattle.situation.specs.Search.{solutionOf, consider, isSettled};
-ghost use Rattle.situation.specs.Applicable.{triggered, planSolutions, choose};
+ghost use Rattle.situation.specs.Search.{solutionOf, rankOf, isBefore, consider, isSettled, bestOf};
+ghost use Rattle.situation.specs.Applicable.{triggered, planStart, choose};
 ghost use Rattle.situation.specs.Selected.{selected, chosenOf};
 use belief::Beliefs;
 use belief::size_of;
@@ -20,9 +19,12 @@ use library::contents::plan_count;
 use library::plan::context_offset;
 use library::plan::trigger;
 use library::plan::trigger_kind;
+use library::plan::trigger_least;
 use literal::Env;
+use literal::FIRST_VARIABLE;
 use literal::Literal;
 use literal::Match;
+use literal::VARIABLES;
 use literal::empty_env;
 use literal::match_literal;
 
@@ -43,11 +45,50 @@ pub struct Selected {
     pub env: Env,
 }
 
-// What the search keeps after one more solution: the first.
-fn considered(best: Match, env: Env) -> Match
-    ensures { λ r. ⌜ solutionOf r ≡ consider (solutionOf best) env ⌝ }
+// What a search keeps of the solutions: by 0 the first, by v + 1 the first with the least value of Vv.
+pub struct Rule {
+    pub least: u16,
+}
+
+// The value by which solutions are compared; unbound counts above all constants.
+fn rank_of(least: u16, env: Env) -> u16
+    ensures { λ r. ⌜ r ≡ rankOf least env ⌝ }
+{
+    if least == 0 {
+        return 0;
+    }
+    let variable = (least - 1) as usize;
+    if VARIABLES <= variable {
+        return 0;
+    }
+    let term = env.terms[variable];
+    if term < FIRST_VARIABLE {
+        return term;
+    }
+    FIRST_VARIABLE
+}
+
+// Whether a solution has a lesser value than the best so far.
+fn is_before(rule: Rule, env: Env, best: Env) -> bool
+    ensures { λ r. ⌜ r ≡ isBefore rule env best ⌝ }
+{
+    let rank = rank_of(rule.least, env);
+    let least_rank = rank_of(rule.least, best);
+    rank < least_rank
+}
+
+// What the search keeps after one more solution: of equal ones the earlier.
+fn considered(rule: Rule, best: Match, env: Env) -> Match
+    ensures { λ r. ⌜ solutionOf r ≡ consider rule (solutionOf best) env ⌝ }
 {
     if best.found {
+        let kept = best.env;
+        if is_before(rule, env, kept) {
+            return Match {
+                found: true,
+                env: env,
+            };
+        }
         return best;
     }
     Match {
@@ -57,10 +98,13 @@ fn considered(best: Match, env: Env) -> Match
 }
 
 // Whether no later solution changes what is kept.
-fn is_settled(best: Match) -> bool
-    ensures { λ r. ⌜ r ≡ isSettled (solutionOf best) ⌝ }
+fn is_settled(rule: Rule, best: Match) -> bool
+    ensures { λ r. ⌜ r ≡ isSettled rule (solutionOf best) ⌝ }
 {
-    best.found
+    if best.found {
+        return rule.least == 0;
+    }
+    false
 }
 
 // The search over an alternative, its `remaining` literals at `at`: for each belief that the first one matches, over those after it.
@@ -71,20 +115,21 @@ fn solved(
     beliefs: Beliefs,
     env: Env,
     best: Match,
+    rule: Rule,
 ) -> Match
     requires { ⌜ at + 8 * remaining < 2 ^ 64 ⌝ }
     ensures { λ r. ⌜ solutionOf r ≡
-        foldl consider (solutionOf best) (solve (view beliefs) (items (literalAt (now (bytes .entry))) 8 remaining at) env) ⌝ }
+        foldl (consider rule) (solutionOf best) (solve (view beliefs) (items (literalAt (now (bytes .entry))) 8 remaining at) env) ⌝ }
 {
     if remaining == 0 {
-        return considered(best, env);
+        return considered(rule, best, env);
     }
     let l = literal_at(bytes, at);
     let n = size_of(beliefs);
     let mut next = best;
     let mut i: usize = 0;
     while i < n {
-        if is_settled(next) {
+        if is_settled(rule, next) {
             return next;
         }
         let belief = beliefs.items[i];
@@ -99,6 +144,7 @@ fn solved(
                 beliefs,
                 extended,
                 next,
+                rule,
             );
         }
     }
@@ -106,8 +152,8 @@ fn solved(
 }
 
 // The search over the situation at `at`, its alternatives in order.
-fn searched(bytes: &[u8], at: usize, beliefs: Beliefs, env: Env) -> Match
-    ensures { λ r. ⌜ solutionOf r ≡ foldl consider none (solutions (view beliefs) (situationAt (now (bytes .entry)) at) env) ⌝ }
+fn searched(bytes: &[u8], at: usize, beliefs: Beliefs, env: Env, rule: Rule) -> Match
+    ensures { λ r. ⌜ solutionOf r ≡ bestOf rule (solutions (view beliefs) (situationAt (now (bytes .entry)) at) env) ⌝ }
 {
     let mut best = Match {
         found: false,
@@ -119,11 +165,11 @@ fn searched(bytes: &[u8], at: usize, beliefs: Beliefs, env: Env) -> Match
     let mut left = u16_at(bytes, at);
     let mut p = at + 2;
     while 0 < left {
-        if is_settled(best) {
+        if is_settled(rule, best) {
             return best;
         }
         let n = u16_at(bytes, p) as usize;
-        best = solved(bytes, p + 2, n, beliefs, env, best);
+        best = solved(bytes, p + 2, n, beliefs, env, best, rule);
         p = p + 2 + LITERAL_BYTES * n;
         left -= 1;
     }
@@ -134,7 +180,8 @@ fn searched(bytes: &[u8], at: usize, beliefs: Beliefs, env: Env) -> Match
 pub fn first_solution(bytes: &[u8], at: usize, beliefs: Beliefs, env: Env) -> Match
     ensures { λ r. ⌜ r ≡ answer env (firstOf (solutions (view beliefs) (situationAt (now (bytes .entry)) at) env)) ⌝ }
 {
-    let best = searched(bytes, at, beliefs, env);
+    let first = Rule { least: 0 };
+    let best = searched(bytes, at, beliefs, env, first);
     if best.found {
         return best;
     }
@@ -180,7 +227,7 @@ fn triggered_by(trigger: Literal, l: Literal) -> Match
     match_literal(trigger, l, empty)
 }
 
-// The first solution of a plan's context for an event; none where it has failed, is of another kind or is not triggered.
+// The solution of a plan's context with which its instance would start; none where it has failed, is of another kind or is not triggered.
 fn plan_solution(
     bytes: &[u8],
     number: u16,
@@ -190,7 +237,7 @@ fn plan_solution(
     failed: u32,
 ) -> Match
     ensures { λ r. ⌜ solutionOf r ≡
-        firstOf (planSolutions (view beliefs) kind l failed number (planOf (now (bytes .entry)) number)) ⌝ }
+        planStart (view beliefs) kind l failed number (planOf (now (bytes .entry)) number) ⌝ }
 {
     let empty = empty_env();
     let none = Match {
@@ -210,11 +257,13 @@ fn plan_solution(
         return none;
     }
     let env = start.env;
+    let least = trigger_least(bytes, plan);
+    let rule = Rule { least: least };
     let context = context_offset(bytes, plan);
-    searched(bytes, context, beliefs, env)
+    searched(bytes, context, beliefs, env, rule)
 }
 
-// The first applicable plan in library order, with its first solution.
+// The first applicable plan in library order, with the solution that its rule keeps.
 pub fn choose_plan(bytes: &[u8], beliefs: Beliefs, kind: u16, l: Literal, failed: u32) -> Selected
     ensures choice { λ r. ⌜ chosenOf r ≡ choose (view beliefs) kind l failed (libraryOf (now (bytes .entry)) .plans) ⌝ }
     ensures whole { λ r. ⌜ r ≡ selected (chosenOf r) ⌝ }

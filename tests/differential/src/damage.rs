@@ -30,7 +30,20 @@ pub const TO_DRAFT: &[(&str, u16, OnDraft)] = &[
         let place = random.between(0, library.beliefs.len());
         library.beliefs.insert(place, first);
     }),
-    ("trigger kind over 4", 4, |random, library| some_plan(random, library).kind = random.between(5, 65_535) as u16),
+    ("trigger kind over 4", 4, |random, library| {
+        let plan = some_plan(random, library);
+        plan.least = None;
+        plan.kind = random.between(5, 15) as u16;
+    }),
+    ("trigger kind over 4 beside a variable", 4, |random, library| {
+        let plan = some_plan(random, library);
+        plan.least = Some(random.below(8) as u16);
+        plan.kind = random.between(5, 15) as u16;
+    }),
+    ("least value of a variable past V7", 4, |random, library| {
+        let any = random.between(8, 4_094) as u16;
+        some_plan(random, library).least = Some(*random.pick(&[8, 4_094, any]));
+    }),
     ("five alternatives in a context", 4, |random, library| some_plan(random, library).context = vec![vec![]; 5]),
     ("five alternatives in a maintenance", 4, |random, library| some_plan(random, library).maintenance = vec![vec![]; 5]),
     ("five literals in a context", 4, |random, library| some_plan(random, library).context = vec![vec![[1, 0, 0, 0]; 5]]),

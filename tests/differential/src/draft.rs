@@ -34,6 +34,8 @@ pub struct Branch {
 #[derive(Clone)]
 pub struct Plan {
     pub kind: u16,
+    /// The variable, 0 to 7, whose least value decides among the context's solutions.
+    pub least: Option<u16>,
     pub trigger: Literal,
     pub context: Situation,
     pub maintenance: Situation,
@@ -53,6 +55,7 @@ impl Plan {
     pub fn simple(kind: u16, trigger: Literal) -> Self {
         Plan {
             kind,
+            least: None,
             trigger,
             context: vec![vec![]],
             maintenance: vec![vec![]],
@@ -71,7 +74,7 @@ impl Plan {
     }
 
     pub fn encode(&self) -> Vec<u8> {
-        let mut numbers = vec![self.kind];
+        let mut numbers = vec![self.kind + self.least.map_or(0, |variable| 16 * (variable + 1))];
         numbers.extend(self.trigger);
         for situation in [&self.context, &self.maintenance] {
             numbers.push(situation.len() as u16);

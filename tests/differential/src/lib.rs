@@ -7,6 +7,7 @@ pub mod damage;
 pub mod draft;
 pub mod ledger;
 pub mod lines;
+mod offcuts;
 pub mod plans;
 pub mod random;
 pub mod scenario;

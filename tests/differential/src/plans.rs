@@ -1,6 +1,7 @@
 //! Valid libraries from a seed.
 
 use crate::draft::{ACHIEVE, ADD, ADDED, Branch, EXTERNAL, Library, Literal, NEGATIVE, Plan, QUERY, Situation, V0, opposite};
+use crate::offcuts;
 use crate::random::Random;
 
 /// What a library leans towards.
@@ -18,17 +19,20 @@ pub enum Theme {
     Search,
     /// Queries, with beliefs of both signs.
     Questions,
+    /// Plans that choose the least value among many solutions.
+    Offcuts,
     /// Hardly any plans.
     Bare,
 }
 
-pub const THEMES: [(Theme, usize); 7] = [
+pub const THEMES: [(Theme, usize); 8] = [
     (Theme::Mixed, 6),
     (Theme::Tower, 4),
     (Theme::Racks, 3),
     (Theme::Crowded, 3),
     (Theme::Search, 3),
     (Theme::Questions, 3),
+    (Theme::Offcuts, 6),
     (Theme::Bare, 1),
 ];
 
@@ -68,6 +72,7 @@ fn shape(theme: Theme) -> Shape {
         Theme::Crowded => Shape { beliefs: (57, 64), branches: [8, 2, 2, 2, 1], most_actions: 4, ..mixed },
         Theme::Search => Shape { beliefs: (24, 64), plain_context: 8, plain_maintenance: 50, most_states: 4, ..mixed },
         Theme::Questions => Shape { beliefs: (8, 30), branches: [1, 1, 1, 2, 9], negative: 40, ..mixed },
+        Theme::Offcuts => Shape { plans: (0, 6), beliefs: (4, 40), negative: 8, ..mixed },
         Theme::Bare => Shape { plans: (0, 2), most_states: 16, most_actions: 4, ..mixed },
     }
 }
@@ -134,12 +139,17 @@ pub fn library(random: &mut Random, theme: Theme) -> (Library, Words) {
     let mut plans = match theme {
         Theme::Tower => tower(random, &words),
         Theme::Crowded => vec![filler(&words)],
+        Theme::Offcuts => offcuts::plans(random, &words),
         _ => vec![],
     };
     let count = random.between(shape.plans.0, shape.plans.1);
     plans.extend((0..count).map(|_| plan(random, &words, &shape)));
     plans.truncate(32);
-    (Library { beliefs: beliefs(random, &words, &shape), plans }, words)
+    let mut beliefs = beliefs(random, &words, &shape);
+    if theme == Theme::Offcuts {
+        beliefs.push(offcuts::LARGEST);
+    }
+    (Library { beliefs, plans }, words)
 }
 
 fn beliefs(random: &mut Random, words: &Words, shape: &Shape) -> Vec<Literal> {
@@ -208,10 +218,12 @@ fn plan(random: &mut Random, words: &Words, shape: &Shape) -> Plan {
     if random.percent(70) {
         trigger = [trigger[0] % NEGATIVE, V0, 0, 0];
     }
+    let context = situation(random, words, shape.plain_context);
     Plan {
         kind,
+        least: least(random, &context),
         trigger,
-        context: situation(random, words, shape.plain_context),
+        context,
         maintenance: situation(random, words, shape.plain_maintenance),
         success: actions(random, words, shape.most_actions),
         failure: actions(random, words, shape.most_actions),
@@ -229,6 +241,12 @@ fn situation(random: &mut Random, words: &Words, plain: usize) -> Situation {
         (0..count).map(|_| words.open(random, &words.facts, 4, 80)).collect()
     };
     (0..alternatives).map(|_| literals(random)).collect()
+}
+
+/// A variable whose least value decides, for a context that has no long list of solutions.
+fn least(random: &mut Random, context: &Situation) -> Option<u16> {
+    let short = context.iter().all(|literals| literals.len() <= 2);
+    (short && random.percent(20)).then(|| random.below(8) as u16)
 }
 
 /// Actions on facts; now and then one on the opposite of the one before it, or adds that turn one belief over and over.

@@ -52,13 +52,13 @@ calls t = (
 
 -- what is left of the pass, folded from what is kept now, is the whole pass folded from the start
 abbrev Inv : solved-lts.InvT-loop
-Inv bytes at remaining env beliefs l n next₀ i₀ next i =
+Inv bytes at remaining env rule beliefs l n next₀ i₀ next i =
     (i ≤ n) × (
-    foldl consider (solutionOf next) (overBeliefs l env (solve (view beliefs) (items (literalAt bytes) 8 (remaining - 1) (at + 8))) (drop i (view beliefs)))
-    ≡ foldl consider (solutionOf next₀) (overBeliefs l env (solve (view beliefs) (items (literalAt bytes) 8 (remaining - 1) (at + 8))) (view beliefs)))
+    foldl (consider rule) (solutionOf next) (overBeliefs l env (solve (view beliefs) (items (literalAt bytes) 8 (remaining - 1) (at + 8))) (drop i (view beliefs)))
+    ≡ foldl (consider rule) (solutionOf next₀) (overBeliefs l env (solve (view beliefs) (items (literalAt bytes) 8 (remaining - 1) (at + 8))) (view beliefs)))
 
 abbrev μ : solved-lts.MeasureT-loop
-μ bytes at remaining env beliefs l n next₀ i₀ next i = n - i
+μ bytes at remaining env rule beliefs l n next₀ i₀ next i = n - i
 
 module _ (t : ℕ) where
   abbrev At-loop : Type 0
@@ -81,9 +81,9 @@ module _ (t : ℕ) where
       overBeliefs (c .before .before .literal-at .result) (a .env) (solve (view (a .t4)) (items (literalAt (now (a .bytes))) 8 (a .remaining - 1) (a .at + 8))) (drop (c .loop .i) (view (a .t4)))
 
   -- where the rest changes nothing, what is kept is the answer
-  finish : (c : At-loop) → foldl consider (solutionOf (c .loop .next)) (rest c) ≡ solutionOf (c .loop .next) →
+  finish : (c : At-loop) → foldl (consider (c .before .before .before .before .before .args .rule)) (solutionOf (c .loop .next)) (rest c) ≡ solutionOf (c .loop .next) →
       let a = c .before .before .before .before .before .args in
-      solutionOf (c .loop .next) ≡ foldl consider (solutionOf (a .best)) (solve (view (a .t4)) (items (literalAt (now (a .bytes))) 8 (a .remaining) (a .at)) (a .env))
+      solutionOf (c .loop .next) ≡ foldl (consider (a .rule)) (solutionOf (a .best)) (solve (view (a .t4)) (items (literalAt (now (a .bytes))) 8 (a .remaining) (a .at)) (a .env))
   finish c p =
       let a = c .before .before .before .before .before .args in
       rw (
@@ -115,7 +115,7 @@ module _ (t : ℕ) where
   returns-2 : solved-lts.Need-returns-2 (calls t) (at t) solved.Post Inv μ
   returns-2 c =
       let d = c .before .before .before in
-      finish d (settled-stays (solutionOf (d .loop .next)) (rest d) (sym (c .before .is-settled .ensures) ∙ c .if2 .taken))
+      finish d (settled-stays (d .before .before .before .before .before .args .rule) (solutionOf (d .loop .next)) (rest d) (sym (c .before .is-settled .ensures) ∙ c .if2 .taken))
 
   mul-belief : solved-lts.Need-mul-belief (calls t) (at t) solved.Post Inv μ
   mul-belief c = omega arith
@@ -148,7 +148,7 @@ module _ (t : ℕ) where
       let a = d .before .before .before .before .before .args in
       let h : d .loop .i < size (a .t4) = inside (c .before .before .before .before .before .before .before) in (
         omega arith,
-        turn-hit consider _ (a .env) _ (a .t4 .items) (size (a .t4)) (within d) _ (d .loop .i) _ (m .result) h (m .ensures) _ (c .before .before .if3 .taken) (c .solved .ensures) ∙ d .loop .inv .1,
+        turn-hit (consider (a .rule)) _ (a .env) _ (a .t4 .items) (size (a .t4)) (within d) _ (d .loop .i) _ (m .result) h (m .ensures) _ (c .before .before .if3 .taken) (c .solved .ensures) ∙ d .loop .inv .1,
       )
 
   loop-less-2 : solved-lts.Need-loop-less-2 (calls t) (at t) solved.Post Inv μ
@@ -161,7 +161,7 @@ module _ (t : ℕ) where
       let a = d .before .before .before .before .before .args in
       let h : d .loop .i < size (a .t4) = inside (c .before .before .before .before .before) in (
         omega arith,
-        turn-miss consider _ (a .env) _ (a .t4 .items) (size (a .t4)) (within d) _ (d .loop .i) _ (m .result) h (m .ensures) (c .if3 .left) ∙ d .loop .inv .1,
+        turn-miss (consider (a .rule)) _ (a .env) _ (a .t4 .items) (size (a .t4)) (within d) _ (d .loop .i) _ (m .result) h (m .ensures) (c .if3 .left) ∙ d .loop .inv .1,
       )
 
   returns-3 : solved-lts.Need-returns-3 (calls t) (at t) solved.Post Inv μ
@@ -169,7 +169,7 @@ module _ (t : ℕ) where
       let d = c .before in
       let a = d .before .before .before .before .before .args in
       let h : size (a .t4) ≤ d .loop .i = omega arith in
-      finish d (turn-end consider _ (a .env) _ (a .t4 .items) (size (a .t4)) (within d) (d .loop .i) _ h)
+      finish d (turn-end (consider (a .rule)) _ (a .env) _ (a .t4 .items) (size (a .t4)) (within d) (d .loop .i) _ h)
 
 pub +solved-spec : {M : Type 1} → statement M
 +solved-spec =

@@ -8,10 +8,9 @@ use Rattle.literal.specs.Environment.{emptyEnv}
 use Rattle.literal.proofs.MatchSteps.{answer-found, answer-none}
 use Rattle.belief.specs.Beliefs.{view}
 use Rattle.library.specs.Layout.{planAt, planOf}
-use Rattle.situation.specs.Solutions.{firstOf}
 use Rattle.situation.specs.Search.{solutionOf}
 use Rattle.situation.specs.Applicable.{triggered}
-use Rattle.situation.proofs.ChoiceLaws.{plan-failed, plan-other-kind, plan-not-triggered, plan-first}
+use Rattle.situation.proofs.ChoiceLaws.{plan-failed, plan-other-kind, plan-not-triggered, plan-starts, no-start}
 use Rattle.situation.proofs.plan_solution.Statement.{statement}
 use Rattle.situation.proofs.plan_solution.Tie as tie
 
@@ -22,22 +21,20 @@ has-requires : tie.Need-has-requires
 has-requires c κs = search needs
 
 returns : tie.Need-returns
-unfolding firstOf
 returns c =
     let a = (c .before .before .before .before .args) in
     let plan = planOf (now (a .bytes)) (a .number) in
-    sym (ap firstOf (plan-failed (view (a .beliefs)) (a .kind) (a .l) (a .failed) (a .number) plan (sym ((c .before .has) .ensures) ∙ (c .if1) .taken)))
+    no-start (view (a .beliefs)) (a .kind) (a .l) (a .failed) (a .number) plan ((plan-failed (view (a .beliefs)) (a .kind) (a .l) (a .failed) (a .number) plan (sym ((c .before .has) .ensures) ∙ (c .if1) .taken)))
 
 trigger-kind-requires : tie.Need-trigger-kind-requires
 trigger-kind-requires c κs = search needs
 
 returns-2 : tie.Need-returns-2
-unfolding firstOf
 returns-2 c =
     let a = (c .before .before .before .before .before .before .args) in
     let plan = planOf (now (a .bytes)) (a .number) in
     let fresh = sym ((c .before .before .before .has) .ensures) ∙ (c .before .before .if1) .left in
-    sym (ap firstOf (plan-other-kind (view (a .beliefs)) (a .kind) (a .l) (a .failed) (a .number) plan fresh (λ q. (c .if2) .taken ((c .before .trigger-kind) .ensures ∙ q))))
+    no-start (view (a .beliefs)) (a .kind) (a .l) (a .failed) (a .number) plan ((plan-other-kind (view (a .beliefs)) (a .kind) (a .l) (a .failed) (a .number) plan fresh (λ q. (c .if2) .taken ((c .before .trigger-kind) .ensures ∙ q))))
 
 trigger-requires : tie.Need-trigger-requires
 trigger-requires c κs = search needs
@@ -46,7 +43,6 @@ triggered-by-requires : tie.Need-triggered-by-requires
 triggered-by-requires c κs = search needs
 
 returns-3 : tie.Need-returns-3
-unfolding firstOf
 returns-3 c =
     let a = (c .before .before .before .before .before .before .before .before .before .before .args) in
     let plan = planOf (now (a .bytes)) (a .number) in
@@ -55,7 +51,10 @@ returns-3 c =
     let own = (c .before .before .before .trigger) .result in
     let start = (c .before .before .triggered-by) in
     let missed = answer-none (start .result) emptyEnv (triggered own (a .l)) (start .ensures) (not-true (start .result .found) ((c .if3) .taken)) in
-    sym (ap firstOf (plan-not-triggered (view (a .beliefs)) (a .kind) (a .l) (a .failed) (a .number) plan fresh kind (ap (λ (t : Literal). triggered t (a .l)) (sym ((c .before .before .before .trigger) .ensures)) ∙ missed)))
+    no-start (view (a .beliefs)) (a .kind) (a .l) (a .failed) (a .number) plan ((plan-not-triggered (view (a .beliefs)) (a .kind) (a .l) (a .failed) (a .number) plan fresh kind (ap (λ (t : Literal). triggered t (a .l)) (sym ((c .before .before .before .trigger) .ensures)) ∙ missed)))
+
+trigger-least-requires : tie.Need-trigger-least-requires
+trigger-least-requires c κs = search needs
 
 context-offset-requires : tie.Need-context-offset-requires
 context-offset-requires c κs = search needs
@@ -66,16 +65,16 @@ searched-requires c κs = search needs
 returns-4 : tie.Need-returns-4
 unfolding planAt
 returns-4 c =
-    let a = (c .before .before .before .before .before .before .before .before .before .before .before .before .before .args) in
+    let a = (c .before .before .before .before .before .before .before .before .before .before .before .before .before .before .args) in
     let plan = planOf (now (a .bytes)) (a .number) in
-    let fresh = sym ((c .before .before .before .before .before .before .before .before .before .before .has) .ensures) ∙ (c .before .before .before .before .before .before .before .before .before .if1) .left in
-    let kind = sym ((c .before .before .before .before .before .before .before .before .trigger-kind) .ensures) ∙ (c .before .before .before .before .before .before .before .if2) .left in
-    let own = (c .before .before .before .before .before .before .trigger) .result in
-    let start = (c .before .before .before .before .before .triggered-by) in
-    let matched = answer-found (start .result) emptyEnv (triggered own (a .l)) (start .ensures) (not-false (start .result .found) ((c .before .before .before .if3) .left)) in
-    plan-first (view (a .beliefs)) (a .kind) (a .l) (a .failed) (a .number) plan fresh kind (start .result .env) (solutionOf ((c .searched) .result))
-    (ap (λ (t : Literal). triggered t (a .l)) (sym ((c .before .before .before .before .before .before .trigger) .ensures)) ∙ matched)
-    (rw (← (c .before .context-offset) .ensures .0) ((c .searched) .ensures))
+    let fresh = sym ((c .before .before .before .before .before .before .before .before .before .before .before .has) .ensures) ∙ (c .before .before .before .before .before .before .before .before .before .before .if1) .left in
+    let kind = sym ((c .before .before .before .before .before .before .before .before .before .trigger-kind) .ensures) ∙ (c .before .before .before .before .before .before .before .before .if2) .left in
+    let own = (c .before .before .before .before .before .before .before .trigger) .result in
+    let start = (c .before .before .before .before .before .before .triggered-by) in
+    let matched = answer-found (start .result) emptyEnv (triggered own (a .l)) (start .ensures) (not-false (start .result .found) ((c .before .before .before .before .if3) .left)) in
+    plan-starts (view (a .beliefs)) (a .kind) (a .l) (a .failed) (a .number) plan fresh kind (start .result .env) (solutionOf ((c .searched) .result))
+    (ap (λ (t : Literal). triggered t (a .l)) (sym ((c .before .before .before .before .before .before .before .trigger) .ensures)) ∙ matched)
+    (rw (← (c .before .context-offset) .ensures .0, ← (c .before .before .trigger-least) .ensures) ((c .searched) .ensures))
 
 pub plan-solution-spec : {M : Type 1} → statement M
 plan-solution-spec =
@@ -89,6 +88,7 @@ plan-solution-spec =
     trigger-requires
     triggered-by-requires
     returns-3
+    trigger-least-requires
     context-offset-requires
     searched-requires
     returns-4)

@@ -11,25 +11,26 @@ use Rattle.belief.specs.Beliefs.{view}
 use Rattle.library.specs.Bytes.{literalAt, rows}
 use Rattle.library.specs.Layout.{situationAt}
 use Rattle.situation.specs.Solutions.{solutions}
-use Rattle.situation.specs.Search.{solutionOf, consider}
+use Rattle.situation.specs.Search.{solutionOf, consider, bestOf}
 use Rattle.situation.proofs.KeepLaws.{settled-stays}
 use Rattle.situation.proofs.PassLaws.{alternative-more, alternative-none, alternative-past}
 use Rattle.situation.proofs.searched.Statement.{statement}
 use Rattle.situation.proofs.searched.Tie as tie
 
 abbrev Inv-loop : tie.InvT-loop
-Inv-loop bytes at beliefs env best₀ left₀ p₀ best left p =
+Inv-loop bytes at beliefs env rule best₀ left₀ p₀ best left p =
     (p + 524282 * left < 2 ^ 64) × (
-    foldl consider (solutionOf best) (solutions (view beliefs) (rows (literalAt bytes) bytes 8 left p) env)
-    ≡ foldl consider none (solutions (view beliefs) (situationAt bytes at) env))
+    foldl (consider rule) (solutionOf best) (solutions (view beliefs) (rows (literalAt bytes) bytes 8 left p) env)
+    ≡ bestOf rule (solutions (view beliefs) (situationAt bytes at) env))
 
 abbrev μ-loop : tie.MeasureT-loop
-μ-loop bytes at beliefs env best₀ left₀ p₀ best left p = left
+μ-loop bytes at beliefs env rule best₀ left₀ p₀ best left p = left
 
 returns : tie.Need-returns Inv-loop μ-loop
+unfolding bestOf
 returns c =
     let a = (c .before .before .args) in
-    sym (alternative-past consider none (view (a .beliefs)) (a .env) (now (a .bytes)) (a .at) ((c .if1) .taken))
+    sym (alternative-past (consider (a .rule)) none (view (a .beliefs)) (a .env) (now (a .bytes)) (a .at) ((c .if1) .taken))
 
 u16-at-requires : tie.Need-u16-at-requires Inv-loop μ-loop
 u16-at-requires c κs = search needs
@@ -38,7 +39,7 @@ add-p : tie.Need-add-p Inv-loop μ-loop
 add-p c = search needs
 
 loop-holds : tie.Need-loop-holds Inv-loop μ-loop
-unfolding situationAt
+unfolding situationAt bestOf
 loop-holds c = (omega arith, rw ((c .u16-at) .ensures))
 
 is-settled-requires : tie.Need-is-settled-requires Inv-loop μ-loop
@@ -48,7 +49,7 @@ returns-2 : tie.Need-returns-2 Inv-loop μ-loop
 returns-2 c =
     let d = c .before .before .before in
     let a = d .before .before .before .before .args in
-    sym (settled-stays (solutionOf (d .loop .best)) (solutions (view (a .beliefs)) (rows (literalAt (now (a .bytes))) (now (a .bytes)) 8 (d .loop .left) (d .loop .p)) (a .env)) (sym ((c .before .is-settled) .ensures) ∙ (c .if2) .taken)) ∙ d .loop .inv .1
+    sym (settled-stays (a .rule) (solutionOf (d .loop .best)) (solutions (view (a .beliefs)) (rows (literalAt (now (a .bytes))) (now (a .bytes)) 8 (d .loop .left) (d .loop .p)) (a .env)) (sym ((c .before .is-settled) .ensures) ∙ (c .if2) .taken)) ∙ d .loop .inv .1
 
 u16-at-requires-2 : tie.Need-u16-at-requires-2 Inv-loop μ-loop
 u16-at-requires-2 c κs = search needs
@@ -83,7 +84,7 @@ loop-again c =
     let a = (c .before .before .before .before .before .before .before .before .before .args) in
     let more : 0 < d .loop .left = omega (arith, (c .before .before .before .before .loop-test) .taken) in (
       omega arith,
-      rw ((c .solved) .ensures, (c .before .u16-at2) .ensures) (alternative-more consider (solutionOf (d .loop .best)) (view (a .beliefs)) (a .env) (now (a .bytes)) (d .loop .p) (d .loop .left) more) ∙ d .loop .inv .1,
+      rw ((c .solved) .ensures, (c .before .u16-at2) .ensures) (alternative-more (consider (a .rule)) (solutionOf (d .loop .best)) (view (a .beliefs)) (a .env) (now (a .bytes)) (d .loop .p) (d .loop .left) more) ∙ d .loop .inv .1,
     )
 
 returns-3 : tie.Need-returns-3 Inv-loop μ-loop
@@ -91,7 +92,7 @@ returns-3 c =
     let d = c .before in
     let a = (c .before .before .before .before .before .args) in
     let done : d .loop .left ≤ 0 = omega arith in
-    sym (alternative-none consider (solutionOf (d .loop .best)) (view (a .beliefs)) (a .env) (now (a .bytes)) (d .loop .p) (d .loop .left) done) ∙ d .loop .inv .1
+    sym (alternative-none (consider (a .rule)) (solutionOf (d .loop .best)) (view (a .beliefs)) (a .env) (now (a .bytes)) (d .loop .p) (d .loop .left) done) ∙ d .loop .inv .1
 
 pub searched-spec : {M : Type 1} → statement M
 searched-spec =

@@ -10,15 +10,15 @@ use Rattle.accepted.proofs.PlanLaws.{trigger-fails, context-fails, main
 use Rattle.accepted.proofs.rules.plan_fits.Statement.{statement}
 use Rattle.accepted.proofs.rules.plan_fits.Tie as tie
 
-trigger-kind-requires : tie.Need-trigger-kind-requires
-trigger-kind-requires c κs = search needs
+trigger-ok-requires : tie.Need-trigger-ok-requires
+trigger-ok-requires c κs = search needs
 
 returns : tie.Need-returns
 unfolding planAt
 returns c =
     let a = (c .before .before .before .args) in
     let bytes = now (a .library) in
-    trigger-fails bytes (entryOff bytes (a .plan)) (entryLength bytes (a .plan)) _ ((c .before .trigger-kind) .ensures) ((c .if1) .taken)
+    trigger-fails bytes (entryOff bytes (a .plan)) (entryLength bytes (a .plan)) _ ((c .before .trigger-ok) .ensures) (not-true _ ((c .if1) .taken))
 
 context-offset-requires : tie.Need-context-offset-requires
 context-offset-requires c κs = search needs
@@ -31,7 +31,7 @@ unfolding planAt
 returns-2 c =
     let a = (c .before .before .before .before .before .before .args) in
     let bytes = now (a .library) in
-    context-fails bytes (entryOff bytes (a .plan)) (entryLength bytes (a .plan)) _ ((c .before .before .before .before .trigger-kind) .ensures) ((c .before .before .before .if1) .left) _ ((c .before .before .context-offset) .ensures .0) (sym ((c .before .situation-ok) .ensures) ∙ not-true _ ((c .if2) .taken))
+    context-fails bytes (entryOff bytes (a .plan)) (entryLength bytes (a .plan)) _ ((c .before .before .before .before .trigger-ok) .ensures) (not-false _ ((c .before .before .before .if1) .left)) _ ((c .before .before .context-offset) .ensures .0) (sym ((c .before .situation-ok) .ensures) ∙ not-true _ ((c .if2) .taken))
 
 maintenance-offset-requires : tie.Need-maintenance-offset-requires
 maintenance-offset-requires c κs = search needs
@@ -45,7 +45,7 @@ returns-3 c =
     let a = (c .before .before .before .before .before .before .before .before .before .args) in
     let bytes = now (a .library) in
     let applies = sym ((c .before .before .before .before .situation-ok) .ensures) ∙ not-false _ ((c .before .before .before .if2) .left) in
-    maintenance-fails bytes (entryOff bytes (a .plan)) (entryLength bytes (a .plan)) _ ((c .before .before .before .before .before .before .before .trigger-kind) .ensures) ((c .before .before .before .before .before .before .if1) .left) _ ((c .before .before .before .before .before .context-offset) .ensures .0) applies _ ((c .before .before .maintenance-offset) .ensures .0) (sym ((c .before .situation-ok2) .ensures) ∙ not-true _ ((c .if3) .taken))
+    maintenance-fails bytes (entryOff bytes (a .plan)) (entryLength bytes (a .plan)) _ ((c .before .before .before .before .before .before .before .trigger-ok) .ensures) (not-false _ ((c .before .before .before .before .before .before .if1) .left)) _ ((c .before .before .before .before .before .context-offset) .ensures .0) applies _ ((c .before .before .maintenance-offset) .ensures .0) (sym ((c .before .situation-ok2) .ensures) ∙ not-true _ ((c .if3) .taken))
 
 success-offset-requires : tie.Need-success-offset-requires
 success-offset-requires c κs = search needs
@@ -60,7 +60,7 @@ returns-4 c =
     let bytes = now (a .library) in
     let applies = sym ((c .before .before .before .before .before .before .before .situation-ok) .ensures) ∙ not-false _ ((c .before .before .before .before .before .before .if2) .left) in
     let maintained = sym ((c .before .before .before .before .situation-ok2) .ensures) ∙ not-false _ ((c .before .before .before .if3) .left) in
-    success-fails bytes (entryOff bytes (a .plan)) (entryLength bytes (a .plan)) _ ((c .before .before .before .before .before .before .before .before .before .before .trigger-kind) .ensures) ((c .before .before .before .before .before .before .before .before .before .if1) .left) _ ((c .before .before .before .before .before .before .before .before .context-offset) .ensures .0) applies _ ((c .before .before .before .before .before .maintenance-offset) .ensures .0) maintained _ ((c .before .before .success-offset) .ensures .0) (sym ((c .before .actions-ok) .ensures) ∙ not-true _ ((c .if4) .taken))
+    success-fails bytes (entryOff bytes (a .plan)) (entryLength bytes (a .plan)) _ ((c .before .before .before .before .before .before .before .before .before .before .trigger-ok) .ensures) (not-false _ ((c .before .before .before .before .before .before .before .before .before .if1) .left)) _ ((c .before .before .before .before .before .before .before .before .context-offset) .ensures .0) applies _ ((c .before .before .before .before .before .maintenance-offset) .ensures .0) maintained _ ((c .before .before .success-offset) .ensures .0) (sym ((c .before .actions-ok) .ensures) ∙ not-true _ ((c .if4) .taken))
 
 failure-offset-requires : tie.Need-failure-offset-requires
 failure-offset-requires c κs = search needs
@@ -76,7 +76,7 @@ returns-5 c =
     let applies = sym ((c .before .before .before .before .before .before .before .before .before .before .situation-ok) .ensures) ∙ not-false _ ((c .before .before .before .before .before .before .before .before .before .if2) .left) in
     let maintained = sym ((c .before .before .before .before .before .before .before .situation-ok2) .ensures) ∙ not-false _ ((c .before .before .before .before .before .before .if3) .left) in
     let succeeds = sym ((c .before .before .before .before .actions-ok) .ensures) ∙ not-false _ ((c .before .before .before .if4) .left) in
-    failure-fails bytes (entryOff bytes (a .plan)) (entryLength bytes (a .plan)) _ ((c .before .before .before .before .before .before .before .before .before .before .before .before .before .trigger-kind) .ensures) ((c .before .before .before .before .before .before .before .before .before .before .before .before .if1) .left) _ ((c .before .before .before .before .before .before .before .before .before .before .before .context-offset) .ensures .0) applies _ ((c .before .before .before .before .before .before .before .before .maintenance-offset) .ensures .0) maintained _ ((c .before .before .before .before .before .success-offset) .ensures .0) succeeds _ ((c .before .before .failure-offset) .ensures .0) (sym ((c .before .actions-ok2) .ensures) ∙ not-true _ ((c .if5) .taken))
+    failure-fails bytes (entryOff bytes (a .plan)) (entryLength bytes (a .plan)) _ ((c .before .before .before .before .before .before .before .before .before .before .before .before .before .trigger-ok) .ensures) (not-false _ ((c .before .before .before .before .before .before .before .before .before .before .before .before .if1) .left)) _ ((c .before .before .before .before .before .before .before .before .before .before .before .context-offset) .ensures .0) applies _ ((c .before .before .before .before .before .before .before .before .maintenance-offset) .ensures .0) maintained _ ((c .before .before .before .before .before .success-offset) .ensures .0) succeeds _ ((c .before .before .failure-offset) .ensures .0) (sym ((c .before .actions-ok2) .ensures) ∙ not-true _ ((c .if5) .taken))
 
 states-offset-requires : tie.Need-states-offset-requires
 states-offset-requires c κs = search needs
@@ -93,7 +93,7 @@ returns-6 c =
     let maintained = sym ((c .before .before .before .before .before .before .before .before .before .before .situation-ok2) .ensures) ∙ not-false _ ((c .before .before .before .before .before .before .before .before .before .if3) .left) in
     let succeeds = sym ((c .before .before .before .before .before .before .before .actions-ok) .ensures) ∙ not-false _ ((c .before .before .before .before .before .before .if4) .left) in
     let fails = sym ((c .before .before .before .before .actions-ok2) .ensures) ∙ not-false _ ((c .before .before .before .if5) .left) in
-    states-fail bytes (entryOff bytes (a .plan)) (entryLength bytes (a .plan)) _ ((c .before .before .before .before .before .before .before .before .before .before .before .before .before .before .before .before .trigger-kind) .ensures) ((c .before .before .before .before .before .before .before .before .before .before .before .before .before .before .before .if1) .left) _ ((c .before .before .before .before .before .before .before .before .before .before .before .before .before .before .context-offset) .ensures .0) applies _ ((c .before .before .before .before .before .before .before .before .before .before .before .maintenance-offset) .ensures .0) maintained _ ((c .before .before .before .before .before .before .before .before .success-offset) .ensures .0) succeeds _ ((c .before .before .before .before .before .failure-offset) .ensures .0) fails _ ((c .before .before .states-offset) .ensures .0) (sym ((c .before .states-ok) .ensures) ∙ not-true _ ((c .if6) .taken))
+    states-fail bytes (entryOff bytes (a .plan)) (entryLength bytes (a .plan)) _ ((c .before .before .before .before .before .before .before .before .before .before .before .before .before .before .before .before .trigger-ok) .ensures) (not-false _ ((c .before .before .before .before .before .before .before .before .before .before .before .before .before .before .before .if1) .left)) _ ((c .before .before .before .before .before .before .before .before .before .before .before .before .before .before .context-offset) .ensures .0) applies _ ((c .before .before .before .before .before .before .before .before .before .before .before .maintenance-offset) .ensures .0) maintained _ ((c .before .before .before .before .before .before .before .before .success-offset) .ensures .0) succeeds _ ((c .before .before .before .before .before .failure-offset) .ensures .0) fails _ ((c .before .before .states-offset) .ensures .0) (sym ((c .before .states-ok) .ensures) ∙ not-true _ ((c .if6) .taken))
 
 entry-offset-requires : tie.Need-entry-offset-requires
 entry-offset-requires c κs = search needs
@@ -124,13 +124,13 @@ returns-7 c =
     let fails = sym ((c .before .before .before .before .before .before .before .actions-ok2) .ensures) ∙ not-false _ ((c .before .before .before .before .before .before .if5) .left) in
     let formed = sym ((c .before .before .before .before .states-ok) .ensures) ∙ not-false _ ((c .before .before .before .if6) .left) in
     let end = ap₂ _+_ ((c .before .before .entry-offset) .ensures) ((c .before .entry-length) .ensures) in
-    ap (eqb _) end ∙ end-decides bytes (entryOff bytes (a .plan)) (entryLength bytes (a .plan)) _ ((c .before .before .before .before .before .before .before .before .before .before .before .before .before .before .before .before .before .before .before .trigger-kind) .ensures) ((c .before .before .before .before .before .before .before .before .before .before .before .before .before .before .before .before .before .before .if1) .left) _ ((c .before .before .before .before .before .before .before .before .before .before .before .before .before .before .before .before .before .context-offset) .ensures .0) applies _ ((c .before .before .before .before .before .before .before .before .before .before .before .before .before .before .maintenance-offset) .ensures .0) maintained _ ((c .before .before .before .before .before .before .before .before .before .before .before .success-offset) .ensures .0) succeeds _ ((c .before .before .before .before .before .before .before .before .failure-offset) .ensures .0) fails _ ((c .before .before .before .before .before .states-offset) .ensures .0) formed _ ((c .plan-end) .ensures)
+    ap (eqb _) end ∙ end-decides bytes (entryOff bytes (a .plan)) (entryLength bytes (a .plan)) _ ((c .before .before .before .before .before .before .before .before .before .before .before .before .before .before .before .before .before .before .before .trigger-ok) .ensures) (not-false _ ((c .before .before .before .before .before .before .before .before .before .before .before .before .before .before .before .before .before .before .if1) .left)) _ ((c .before .before .before .before .before .before .before .before .before .before .before .before .before .before .before .before .before .context-offset) .ensures .0) applies _ ((c .before .before .before .before .before .before .before .before .before .before .before .before .before .before .maintenance-offset) .ensures .0) maintained _ ((c .before .before .before .before .before .before .before .before .before .before .before .success-offset) .ensures .0) succeeds _ ((c .before .before .before .before .before .before .before .before .failure-offset) .ensures .0) fails _ ((c .before .before .before .before .before .states-offset) .ensures .0) formed _ ((c .plan-end) .ensures)
 
 pub plan-fits-spec : {M : Type 1} → statement M
 plan-fits-spec =
     tie.close
     (tie.spec
-    trigger-kind-requires
+    trigger-ok-requires
     returns
     context-offset-requires
     situation-ok-requires

@@ -2,7 +2,7 @@
 use mathlib.Core.Path.{ap, _∙_}
 use borrow.Author.Needs.{needs}
 use denote.Ref.{now}
-use Rattle.library.specs.Layout.{planAt}
+use Rattle.library.specs.Layout.{kindIn, planAt}
 use Rattle.library.specs.Bytes.{u16At}
 use Rattle.library.proofs.plan.trigger_kind.Statement.{statement}
 use Rattle.library.proofs.plan.trigger_kind.Tie as tie
@@ -18,7 +18,7 @@ u16-at-requires c κs = search needs
 
 returns : tie.Need-returns
 unfolding planAt
-returns c = (c .u16-at) .ensures ∙ ap (u16At (now ((c .before .before .before .args) .library))) ((c .before .entry-offset) .ensures)
+returns c = ap kindIn ((c .u16-at) .ensures ∙ ap (u16At (now ((c .before .before .before .args) .library))) ((c .before .entry-offset) .ensures))
 
 pub trigger-kind-spec : {M : Type 1} → statement M
 trigger-kind-spec = tie.close (tie.spec entry-offset-requires cast-off u16-at-requires returns)

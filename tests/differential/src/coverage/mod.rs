@@ -10,6 +10,8 @@ use reference::refusal::Refusal;
 use reference::state::{Event, Instance, Origin, Place};
 use std::collections::BTreeMap;
 
+mod least;
+
 /// The letters of the journal and the refusals by number.
 pub const LETTERS: &[&str] = &["T", "I", "N", "U", "M e", "M g", "S", "B", "D", "G", "E", "F"];
 pub const REFUSALS: &[&str] = &["X 0", "X 1", "X 2", "X 3", "X 4", "X 5", "X 6", "X 7", "X 8", "X 9"];
@@ -87,6 +89,7 @@ pub struct Coverage {
 pub struct Watch {
     beliefs: Beliefs,
     tops: Vec<(Instance, usize)>,
+    pending: Vec<Event>,
     external: usize,
 }
 
@@ -96,6 +99,7 @@ impl Watch {
         Watch {
             beliefs: agent.beliefs().clone(),
             tops: agent.stacks().iter().filter_map(top).collect(),
+            pending: agent.queue().iter().filter(|event| !event.served).cloned().collect(),
             external: agent.queue().iter().filter(|event| is_external(event)).count(),
         }
     }
@@ -138,6 +142,7 @@ impl Coverage {
             ("letters", LETTERS.to_vec()),
             ("refusals", REFUSALS.to_vec()),
             ("depths", DEPTHS.to_vec()),
+            ("least values", least::NAMES.to_vec()),
             ("damaged libraries", on_draft.chain(on_bytes).chain(unknown).chain(["no file"]).collect()),
             ("unreadable lines", lines.chain(["one byte of a line changed"]).collect()),
         ]
@@ -189,27 +194,26 @@ impl Coverage {
                 self.note("I");
                 self.note_if(after.queue().iter().any(|event| !event.served), "I past a pending event");
             }
-            Deed::Dropped(_, failed) => {
+            Deed::Dropped(number, failed) => {
                 self.note("N");
                 self.note_if(failed > 0, "N after a failure");
+                self.least_given_up(before, Origin::External(number), after);
             }
-            Deed::Unmet(_, failed) => {
+            Deed::Unmet(goal, failed) => {
                 self.note("U");
                 self.note(if failed > 0 { "U after a failure" } else { "U at once" });
+                self.least_given_up(before, Origin::Goal(goal), after);
             }
             Deed::Made { id, plan, serves } => self.made(before, id, plan, serves, after),
             Deed::Stepped(place, _) => {
                 self.note("S");
                 self.note(if cycle { stepped(before, place, !answer.changes.is_empty(), after) } else { "S outcome" });
-                let turned = answer.changes.len() == 2;
-                self.note_if(turned, "S add takes out an opposite");
-                self.note_if(turned && before.is_full(), "S add takes out an opposite at 64");
             }
             Deed::Missed(place) => {
                 self.note("B");
                 self.note(if cycle { missed(before, place, after) } else { "B outcome" });
             }
-            Deed::Done(..) => self.note("D"),
+            Deed::Done(place, _) => self.done(before, place, after),
             Deed::Posted(place) => {
                 self.note("G");
                 let achieve = branch(before, place, after).is_some_and(|(kind, ..)| kind == BranchKind::Achieve);
@@ -218,6 +222,18 @@ impl Coverage {
             Deed::Succeeded(id) => self.ended(before, id, true, after),
             Deed::Failed(id) => self.ended(before, id, false, after),
         }
+        self.changed(before, answer);
+    }
+
+    fn done(&mut self, before: &Watch, place: Place, after: &Agent) {
+        self.note("D");
+        self.least_shown(before, place, after);
+    }
+
+    fn changed(&mut self, before: &Watch, answer: &Answer) {
+        let turned = matches!(answer.deed, Deed::Stepped(..)) && answer.changes.len() == 2;
+        self.note_if(turned, "S add takes out an opposite");
+        self.note_if(turned && before.is_full(), "S add takes out an opposite at 64");
         self.note_if(answer.changes.len() > 4, "over four changes");
     }
 
@@ -238,6 +254,7 @@ impl Coverage {
         self.note_if(event.is_some_and(|event| !event.failed.is_empty()), "M after a failure");
         let instance = after.stacks().iter().flatten().find(|instance| instance.id == id);
         let (Some(event), Some(instance)) = (event, instance) else { return };
+        self.least_made(before, event, instance, after);
         let plan = &after.plans()[plan];
         let Some(from) = plan.trigger.matched(&event.fact, &Bindings::default()) else { return };
         self.note_if(instance.bindings != from, "M with a bound context");
@@ -254,6 +271,7 @@ impl Coverage {
             let at_end = plan.states[instance.state].is_empty();
             self.note(if maintained { "F branches spent" } else { "F maintenance" });
             self.note_if(at_end, "F maintenance at an end");
+            self.note_if(plan.least.is_some(), "least: F");
         }
         let mut beliefs = before.beliefs.clone();
         for action in if succeeded { &plan.on_success } else { &plan.on_failure } {
