@@ -1,6 +1,7 @@
 // The journal program: loads the file "library" of its folder, and answers each line of standard input with a line.
 ghost use Rattle.io.specs.Counts.{Counts};
 use agent::feed;
+use libc::ENOENT;
 use libc::STDIN_FILENO;
 use libc::STDOUT_FILENO;
 use load::Agent;
@@ -21,28 +22,55 @@ struct Session {
 
 // ---- The library
 
-// How many bytes of the file are in the buffer; a file that cannot be read counts as empty.
+// A library that is there and cannot be read.
+fn say_unreadable() {
+    os::fail(b"canarystand: library counts as missing");
+}
+
+// How many bytes of the file are in the buffer; a file that is missing or cannot be read counts as empty.
 fn read_library(file: &mut [u8]) -> usize
     ensures { λ r. ⌜ Counts r (now (file .exit)) ⌝ }
 {
-    let fd = os::open_read(&[b'l', b'i', b'b', b'r', b'a', b'r', b'y']);
+    let fd = os::open_read(b"library");
     if fd < 0 {
+        if os::errno() != ENOENT {
+            say_unreadable();
+        }
         return 0;
     }
-    let n = io::read_full(fd, file);
+    let got = transfer::read_full(fd, file);
+    if got.failed {
+        say_unreadable();
+    }
     libc::close(fd);
-    n
+    got.count
+}
+
+// Writes to standard output, and tells whether it could.
+fn print(bytes: &[u8]) -> bool {
+    let written = transfer::write_all(STDOUT_FILENO, bytes);
+    if !written {
+        os::fail(b"canarystand: standard output");
+    }
+    written
 }
 
 fn print_refusal(number: u16, out: &mut [u8]) {
     let result = answer::plain_result(Answer::Refused(number));
     let n = printing::print_result(out, 0, result);
     if n <= out.len() {
-        io::write_all(STDOUT_FILENO, &out[..n]);
+        print(&out[..n]);
     }
 }
 
 // ---- The lines
+
+fn stopped(s: Session) -> Session {
+    Session {
+        goes_on: false,
+        ..s
+    }
+}
 
 // The lines that end in a piece of input, each answered.
 fn answer_piece(piece: &[u8], s: Session, out: &mut [u8]) -> Session {
@@ -56,7 +84,7 @@ fn answer_piece(piece: &[u8], s: Session, out: &mut [u8]) -> Session {
         agent = fed.agent;
         carry = fed.carry;
         at += read;
-        if read == 0 || !io::write_all(STDOUT_FILENO, &out[..n]) {
+        if read == 0 || !print(&out[..n]) {
             return Session {
                 agent: agent,
                 carry: carry,
@@ -82,15 +110,16 @@ fn finish(s: Session, out: &mut [u8]) {
 
 // One read of whatever is there, so that each answer is written before more input is waited for.
 fn answer_some(s: Session, input: &mut [u8], out: &mut [u8]) -> Session {
-    let got = libc::read(STDIN_FILENO, input);
-    if got <= 0 {
-        finish(s, out);
-        return Session {
-            goes_on: false,
-            ..s
-        };
+    let got = transfer::read_some(STDIN_FILENO, input);
+    if got.failed {
+        os::fail(b"canarystand: standard input");
+        return stopped(s);
     }
-    let n = io::count(got, input);
+    if got.count == 0 {
+        finish(s, out);
+        return stopped(s);
+    }
+    let n = got.count;
     answer_piece(&input[..n], s, out)
 }
 

@@ -31,14 +31,14 @@ feed-requires c κs = search needs
 add-at : tie.Need-add-at Inv-loop μ-loop
 add-at c = omega (arith, (c .before .before .before .before .feed) .ensures .within, (c .before .before .before .before .before .before .before .before .before .before .before .before .before .good))
 
-slice-reshare-prefix-write-all : tie.Need-slice-reshare-prefix-write-all Inv-loop μ-loop
-slice-reshare-prefix-write-all c = (c .before .before .before .before .before .feed) .ensures .room
+slice-reshare-prefix-print : tie.Need-slice-reshare-prefix-print Inv-loop μ-loop
+slice-reshare-prefix-print c = (c .before .before .before .before .before .feed) .ensures .room
 
-slice-aggregate-write-all : tie.Need-slice-aggregate-write-all Inv-loop μ-loop
-slice-aggregate-write-all c = simp length-take (omega (arith, (c .before .before .before .before .before .before .feed) .ensures .room))
+slice-aggregate-print : tie.Need-slice-aggregate-print Inv-loop μ-loop
+slice-aggregate-print c = simp length-take (omega (arith, (c .before .before .before .before .before .before .feed) .ensures .room))
 
-write-all-requires : tie.Need-write-all-requires Inv-loop μ-loop
-write-all-requires c κs = search needs
+print-requires : tie.Need-print-requires Inv-loop μ-loop
+print-requires c κs = search needs
 
 same-length : tie.Need-same-length Inv-loop μ-loop
 same-length c = search needs
@@ -70,9 +70,9 @@ answer-piece-spec =
     part-feed-end
     feed-requires
     add-at
-    slice-reshare-prefix-write-all
-    slice-aggregate-write-all
-    write-all-requires
+    slice-reshare-prefix-print
+    slice-aggregate-print
+    print-requires
     same-length
     returns
     loop-less

@@ -11,14 +11,14 @@ plain-result-requires c κs = search needs
 print-result-requires : tie.Need-print-result-requires
 print-result-requires c κs = search needs
 
-slice-reshare-prefix-write-all : tie.Need-slice-reshare-prefix-write-all
-slice-reshare-prefix-write-all c = search needs
+slice-reshare-prefix-print : tie.Need-slice-reshare-prefix-print
+slice-reshare-prefix-print c = search needs
 
-slice-aggregate-write-all : tie.Need-slice-aggregate-write-all
-slice-aggregate-write-all c = simp length-take (omega arith)
+slice-aggregate-print : tie.Need-slice-aggregate-print
+slice-aggregate-print c = simp length-take (omega arith)
 
-write-all-requires : tie.Need-write-all-requires
-write-all-requires c κs = search needs
+print-requires : tie.Need-print-requires
+print-requires c κs = search needs
 
 same-length : tie.Need-same-length
 same-length c = search needs
@@ -38,9 +38,9 @@ print-refusal-spec =
     (tie.spec
     plain-result-requires
     print-result-requires
-    slice-reshare-prefix-write-all
-    slice-aggregate-write-all
-    write-all-requires
+    slice-reshare-prefix-print
+    slice-aggregate-print
+    print-requires
     same-length
     returns
     same-length-2
