@@ -74,17 +74,17 @@ module _ (bytes : List ℕ) (accepted : refusalOf bytes ≡ 0) where
   chain-end (then link c rest) = chain-end rest
 
   -- the agent that load gives holds the library, in the loaded state
-  pub loaded-held : (l : Loaded) → length (l .agent .library) ≡ 19332 → Loads bytes l → Held bytes (l .agent)
-  loaded-held l size h = record {
-    size = subst⁻¹ (λ (n : ℕ). l .agent .length ≤ n) size (h .within);
+  pub loaded-held : (l : Loaded) → Loads bytes l → Held bytes (l .agent)
+  loaded-held l h = record {
+    size = subst⁻¹ (λ (n : ℕ). l .agent .length ≤ n) (h .places) (h .within);
     bytes-are = h .copy accepted;
     fit = h .fit;
     formed = subst⁻¹ (λ (s : AgentState). isWellFormed (libraryOf bytes) s ≡ true) (h .state accepted) (loaded-well-formed bytes accepted);
   }
 
-  module _ (l : Loaded) (size : length (l .agent .library) ≡ 19332) (loads : Loads bytes l) {b : Agent} {links : List Link} (c : Chain (l .agent) links b) where
+  module _ (l : Loaded) (loads : Loads bytes l) {b : Agent} {links : List Link} (c : Chain (l .agent) links b) where
     from-loaded : IsChain (libraryOf bytes) (loaded (libraryOf bytes)) (entriesOf links)
-    from-loaded = subst (λ (s : AgentState). IsChain (libraryOf bytes) s (entriesOf links)) (loads .state accepted) (chain-is (loaded-held l size loads) c)
+    from-loaded = subst (λ (s : AgentState). IsChain (libraryOf bytes) s (entriesOf links)) (loads .state accepted) (chain-is (loaded-held l loads) c)
 
     at-end : finalOf (loaded (libraryOf bytes)) (entriesOf links) ≡ viewState (b .state)
     at-end = ap (λ (s : AgentState). finalOf s (entriesOf links)) (sym (loads .state accepted)) ∙ chain-end c
@@ -105,8 +105,8 @@ module _ (bytes : List ℕ) (accepted : refusalOf bytes ≡ 0) where
         ∙ chain-run (libraryOf bytes) (loaded (libraryOf bytes)) (entriesOf links) from-loaded
 
   -- results and states are the same whatever the places past the counts hold: they depend on the library and the calls alone
-  pub same-entries : (l m : Loaded) → length (l .agent .library) ≡ 19332 → length (m .agent .library) ≡ 19332 → Loads bytes l → Loads bytes m
+  pub same-entries : (l m : Loaded) → Loads bytes l → Loads bytes m
       → {a b : Agent} {links others : List Link} → Chain (l .agent) links a → Chain (m .agent) others b
       → map (λ (k : Link). k .call) links ≡ map (λ (k : Link). k .call) others → entriesOf links ≡ entriesOf others
-  same-entries l m p q x y c d e =
-      sym (entries-run l p x c) ∙ ap (run (libraryOf bytes) (loaded (libraryOf bytes))) e ∙ entries-run m q y d
+  same-entries l m x y c d e =
+      sym (entries-run l x c) ∙ ap (run (libraryOf bytes) (loaded (libraryOf bytes))) e ∙ entries-run m y d

@@ -118,13 +118,13 @@ pub session-lines : {a b : Agent} {carry : Carry} {input output : List ℕ} → 
 session-lines {input = input} fresh s = one-line-each (session-journal fresh s) ∙ length-map (lines input) callOf
 
 -- demand 3 holds of what a session prints on an agent that load gives, whatever the library, the input and its pieces; 10 is never printed
-pub session-demand-3 : (bytes : List ℕ) → refusalOf bytes ≡ 0 → (l : Loaded) → length (l .agent .library) ≡ 19332 → Loads bytes l
+pub session-demand-3 : (bytes : List ℕ) → refusalOf bytes ≡ 0 → (l : Loaded) → Loads bytes l
     → {b : Agent} {carry : Carry} {input output : List ℕ} → begun carry ≡ some [] → Session (l .agent) carry input output b
     → Accounted bytes (l .agent) input output b
-session-demand-3 bytes accepted l size loads fresh s =
+session-demand-3 bytes accepted l loads fresh s =
     let told = session-answers fresh s in
     record {
       answers = told;
-      demand-3 = ChainLaws.demand-3 bytes accepted l size loads (told .chain);
-      never-ten = ChainLaws.never-ten bytes accepted l size loads (told .chain);
+      demand-3 = ChainLaws.demand-3 bytes accepted l loads (told .chain);
+      never-ten = ChainLaws.never-ten bytes accepted l loads (told .chain);
     }

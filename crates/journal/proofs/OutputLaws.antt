@@ -5,7 +5,6 @@ use mathlib.Core.Bool.{true, false}
 use mathlib.Core.Option.{Option, none, some}
 use mathlib.Core.List.{List, [], _∷_, _++_, map}
 use lib.Dec.{eqb}
-use lib.ListN.{length}
 use borrow.Author.Tests.{ne-eqb}
 use Rattle.lists.specs.Counts.{each}
 use Rattle.library.specs.Plan.{Library}
@@ -95,13 +94,13 @@ journal-state {a} e j = held-state (bytesOf a) (test-parts (a .library) (a .leng
 
 -- ---- A session on an agent that load gives
 
-module _ (bytes : List ℕ) (accepted : refusalOf bytes ≡ 0) (l : Loaded) (size : length (l .agent .library) ≡ 19332) (loads : Loads bytes l) where
+module _ (bytes : List ℕ) (accepted : refusalOf bytes ≡ 0) (l : Loaded) (loads : Loads bytes l) where
   module _ {b : Agent} {carry : Carry} {input output : List ℕ} (fresh : begun carry ≡ some []) (s : Session (l .agent) carry input output b) where
     -- its output depends on the library's bytes and the input's alone, and is what the definition computes
     pub session-output : output ≡ outputOf bytes input
     unfolding outputOf
     session-output =
-        held-computed bytes accepted (loaded-held bytes accepted l size loads) (session-journal fresh s)
+        held-computed bytes accepted (loaded-held bytes accepted l loads) (session-journal fresh s)
         ∙ ap (λ (x : AgentState). answersTo (libraryOf bytes) x (map callOf (lines input))) (loads .state accepted)
 
     pub session-printed : output ≡ printedFor bytes input

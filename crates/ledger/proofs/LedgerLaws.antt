@@ -5,7 +5,6 @@ use native.Mathlib.Omega.{arith}
 use mathlib.Core.Path.{_≡_, refl, ap, sym, subst, subst⁻¹, _∙_}
 use mathlib.Core.Bool.{Bool, true, false, _&&_}
 use mathlib.Core.List.{List, [], _∷_}
-use lib.ListN.{length}
 use Rattle.lists.specs.Counts.{Every}
 use Rattle.lists.proofs.BoolLaws.{by-cases, and-parts}
 use Rattle.literal.specs.declared.Literal.{Literal}
@@ -158,22 +157,28 @@ copied-agrees {a = a} {table = table} (Chain.then link c rest) (Ledger.then _ an
 
 -- ---- From a loaded agent: the ledger begins with the loaded beliefs
 
-module _ (bytes : List ℕ) (accepted : refusalOf bytes ≡ 0) (l : Loaded) (loads : Loads bytes l) {b : Agent} {links : List Link} (c : Chain (l .agent) links b) (table : Beliefs) (places : length (table .items) ≡ 64) (begins : Holds (beliefsOf bytes) table) where
-  begins-sound : Sound table
-  unfolding libraryOf
-  begins-sound = record {
-    places = places;
-    rules = table-both table (begins .few) (subst⁻¹ (λ (bs : List Literal). areBeliefs bs ≡ true) (begins .means) (acceptable bytes accepted .beliefs));
-  }
+module _ (bytes : List ℕ) (accepted : refusalOf bytes ≡ 0) (l : Loaded) (loads : Loads bytes l) {b : Agent} {links : List Link} (c : Chain (l .agent) links b) where
+  module _ (table : Beliefs) (begins : Holds (beliefsOf bytes) table) where
+    begins-sound : Sound table
+    unfolding libraryOf
+    begins-sound = record {
+      places = begins .places;
+      rules = table-both table (begins .few) (subst⁻¹ (λ (bs : List Literal). areBeliefs bs ≡ true) (begins .means) (acceptable bytes accepted .beliefs));
+    }
 
-  begins-same : Agrees table (l .agent)
-  unfolding libraryOf
-  begins-same = begins .means ∙ ap (λ (s : AgentState). s .beliefs) (sym (loads .state accepted))
+    begins-same : Agrees table (l .agent)
+    unfolding libraryOf
+    begins-same = begins .means ∙ ap (λ (s : AgentState). s .beliefs) (sym (loads .state accepted))
 
-  -- the change call on all the changes that the results report is accepted, and gives the agent's belief table
-  pub ledger-agrees : (answer : Changed) → answer ≡ changed table (reported links) → (answer .refusal ≡ 0) × Agrees (answer .table) b
-  ledger-agrees = reported-agrees c table begins-sound begins-same
+    -- the change call on all the changes that the results report is accepted, and gives the agent's belief table
+    pub ledger-agrees : (answer : Changed) → answer ≡ changed table (reported links) → (answer .refusal ≡ 0) × Agrees (answer .table) b
+    ledger-agrees = reported-agrees c table begins-sound begins-same
 
-  -- the change call on the changes of each result, one call after the other, is always accepted, and keeps the agent's belief table
-  pub copy-agrees : {answers : List Changed} {last : Beliefs} → Copied table links answers last → Every isAccepted answers × Agrees last b
-  copy-agrees copied = copied-agrees c copied begins-sound begins-same
+    -- the change call on the changes of each result, one call after the other, is always accepted, and keeps the agent's belief table
+    pub copy-agrees : {answers : List Changed} {last : Beliefs} → Copied table links answers last → Every isAccepted answers × Agrees last b
+    copy-agrees copied = copied-agrees c copied begins-sound begins-same
+
+  -- so does a ledger that begins with the table of the agent that load gave
+  pub loaded-copy-agrees : {answers : List Changed} {last : Beliefs} → Copied (l .agent .state .beliefs) links answers last
+      → Every isAccepted answers × Agrees last b
+  loaded-copy-agrees = copy-agrees (l .agent .state .beliefs) (loads .table accepted)

@@ -4,7 +4,8 @@ ghost use Prim.Native.Nat.{_≤_};
 ghost use lib.ListN.{length, take};
 ghost use Rattle.belief.specs.Beliefs.{mostBeliefs};
 ghost use Rattle.library.specs.Layout.{beliefsOf};
-ghost use Rattle.load.specs.Load.{Starts, Refuses, Loads, Holds};
+ghost use Rattle.accepted.specs.Refusal.{mostBytes};
+ghost use Rattle.load.specs.Load.{Holds, noBeliefs, startsWith, withoutLibrary, noAgent, Loads};
 use belief::Beliefs;
 use belief::MOST_BELIEFS;
 use model::Event;
@@ -35,8 +36,8 @@ pub struct Loaded {
 
 // The bytes at the beginning of an array, zeros after them.
 fn copied(library: &[u8]) -> [u8; MOST_BYTES]
-    requires { ⌜ length (now library) ≤ 19332 ⌝ }
-    ensures { λ r. ⌜ take (length (now (library .entry))) r ≡ now (library .entry) ⌝ }
+    requires { ⌜ length (now library) ≤ mostBytes ⌝ }
+    ensures { λ r. ⌜ (length r ≡ mostBytes) × (take (length (now (library .entry))) r ≡ now (library .entry)) ⌝ }
 {
     let mut copy = [0u8; MOST_BYTES];
     let mut i: usize = 0;
@@ -49,7 +50,7 @@ fn copied(library: &[u8]) -> [u8; MOST_BYTES]
 
 // A table without beliefs.
 fn no_beliefs() -> Beliefs
-    ensures { λ r. ⌜ r .count ≡ 0 ⌝ }
+    ensures { λ r. ⌜ r ≡ noBeliefs ⌝ }
 {
     let nothing = library::bytes::no_literal();
     Beliefs {
@@ -77,7 +78,7 @@ fn initial_beliefs(library: &[u8]) -> Beliefs
 
 // A state with beliefs alone.
 fn first_state(beliefs: Beliefs) -> State
-    ensures { λ r. ⌜ Starts beliefs r ⌝ }
+    ensures { λ r. ⌜ r ≡ startsWith beliefs ⌝ }
 {
     let nothing = library::bytes::no_literal();
     let event = Event {
@@ -114,7 +115,7 @@ fn first_state(beliefs: Beliefs) -> State
 
 // An agent without a library: every call on it is refused.
 fn no_agent(state: State) -> Agent
-    ensures { λ r. ⌜ (r .length ≡ 0) × (r .state ≡ state) ⌝ }
+    ensures { λ r. ⌜ r ≡ withoutLibrary state ⌝ }
 {
     Agent {
         library: [0u8; MOST_BYTES],
@@ -125,7 +126,7 @@ fn no_agent(state: State) -> Agent
 
 // No agent is made.
 fn refused(refusal: u16) -> Loaded
-    ensures { λ r. ⌜ Refuses refusal r ⌝ }
+    ensures { λ r. ⌜ r ≡ record { refusal = refusal; agent = noAgent } ⌝ }
 {
     let nothing = no_beliefs();
     let empty = first_state(nothing);

@@ -43,7 +43,7 @@ returns c =
     let l = (c .before .loop) in
     let bytes = (c .before .before .args) .library .now in
     let e : length bytes ≡ l .i = omega arith in
-    rw e (l .inv .2 ∙ rw (← e, take-length))
+    (l .inv .1, rw e (l .inv .2 ∙ rw (← e, take-length)))
 
 pub copied-spec : {M : Type 1} → statement M
 copied-spec =

@@ -1,9 +1,7 @@
--- `load::refused` meets its contract: no library, and a state with nothing in it.
+-- `load::refused` meets its contract: the number, and an agent with nothing in it.
 use borrow.Author.Needs.{needs}
-use native.Mathlib.Omega.{arith}
-use mathlib.Core.Path.{refl, ap, _∙_}
-use Rattle.state.specs.View.{countsFit}
-use Rattle.load.proofs.LoadLaws.{starts-fit}
+use mathlib.Core.Path.{ap, _∙_}
+use Rattle.load.specs.Load.{startsWith, withoutLibrary, noAgent}
 use Rattle.load.proofs.refused.Statement.{statement}
 use Rattle.load.proofs.refused.Tie as tie
 
@@ -17,12 +15,10 @@ no-agent-requires : tie.Need-no-agent-requires
 no-agent-requires c κs = search needs
 
 returns : tie.Need-returns
+unfolding noAgent
 returns c =
-    record {
-      refusal = refl;
-      length = (c .no-agent) .ensures .0;
-      fit = ap countsFit ((c .no-agent) .ensures .1) ∙ starts-fit ((c .before .before .no-beliefs) .result) ((c .before .first-state) .result) ((c .before .first-state) .ensures) (omega (arith, (c .before .before .no-beliefs) .ensures));
-    }
+    let agent = (c .no-agent) .ensures ∙ ap withoutLibrary ((c .before .first-state) .ensures ∙ ap startsWith ((c .before .before .no-beliefs) .ensures)) in
+    λ i. record { refusal = (c .before .before .before .args) .refusal; agent = agent i }
 
 pub refused-spec : {M : Type 1} → statement M
 refused-spec =
