@@ -56,4 +56,5 @@ calls-agent a c acted h r z = subst⁻¹ (Calls a c) z (record {
   length = refl;
   refused = λ x. let same = h .refused x in λ i. record { library = a .library; length = a .length; state = same i };
   fit = h .fit;
+  count = h .count;
 })

@@ -33,6 +33,8 @@ use Rattle.state.proofs.CountParts.{counts-parts}
 use Rattle.state.proofs.ViewLaws.{length-stacks, stack-at}
 use Rattle.state.proofs.StackLaws.{put-view}
 use Rattle.state.proofs.StateLaws.{dequeue-state, open-state, put-frame}
+use Rattle.trials.specs.Altered.{untouched, Within}
+use Rattle.trials.proofs.AlteredLaws.{untouched-within}
 use Rattle.moves.specs.declared.QueueMove.the-variants as queue
 use Rattle.moves.specs.declared.StackMove.the-variants as stacks
 use Rattle.moves.specs.declared.Numbering.the-variants as numbering
@@ -92,8 +94,8 @@ dequeue-frame s place = go (ltb place (queuedOf s)) (closeGap place (queuedOf s 
     go false queue queued = refl
 
 module _ (s : State) (sized : Sized s) (fits : countsFit s ≡ true) where
-  few : s .beliefs .count ≤ 64
-  few = counts-parts s fits .beliefs
+  few : Within (untouched (s .beliefs))
+  few = untouched-within (s .beliefs) (counts-parts s fits .beliefs)
 
   -- ---- Made
 

@@ -1,5 +1,6 @@
 -- Lines run one after the other: what each gives, that a well-formed state stays well formed, and that a run is a chain of the agent's calls.
 use Prim.Native.Nat.{ℕ}
+use native.Mathlib.Omega.{arith}
 use mathlib.Core.Path.{_≡_, refl, ap, sym, subst, subst⁻¹, _∙_}
 use mathlib.Core.Bool.{Bool, true, false, _&&_}
 use mathlib.Core.Option.{Option, none, some}
@@ -36,19 +37,19 @@ module _ (bytes : List ℕ) (s : State) where
   -- a worker's reply to a call
   pub responds-act : (c : Call) (r : Acted) → Gives s (act (libraryOf bytes) (viewState s) c) r → Responds bytes true s (some c) r
   unfolding respondBy callBy
-  responds-act c r g = record { means = g .means; refused = g .refused; fit = λ e. g .fit }
+  responds-act c r g = record { means = g .means; refused = g .refused; fit = λ e. g .fit; count = g .count }
 
   -- a line that cannot be read
   pub responds-unread : (formed : Bool) → (formed ≡ true → countsFit s ≡ true) → (r : Acted) → r ≡ plainly s (Refused 0) → Responds bytes formed s none r
   unfolding respondBy
-  responds-unread formed fits r z = subst⁻¹ (Responds bytes formed s none) z (record { means = refl; refused = λ e. refl; fit = fits })
+  responds-unread formed fits r z = subst⁻¹ (Responds bytes formed s none) z (record { means = refl; refused = λ e. refl; fit = fits; count = omega arith })
 
   -- a state that is not well formed
   pub responds-refused : (formed : Bool) → formed ≡ false → (c : Option Call) (r : Acted) → r ≡ plainly s (Refused (refusalFor c)) → Responds bytes formed s c r
   unfolding respondBy callBy
   responds-refused formed e none r z = responds-unread formed (λ t. both-ways t e) r z
   responds-refused formed e (some c) r z =
-      subst⁻¹ (Responds bytes formed s (some c)) z (record { means = rw e; refused = λ t. refl; fit = λ t. both-ways t e })
+      subst⁻¹ (Responds bytes formed s (some c)) z (record { means = rw e; refused = λ t. refl; fit = λ t. both-ways t e; count = omega arith })
 
   -- a line keeps a well-formed state well formed
   pub responds-kept : WellFormedState bytes s → (c : Option Call) (r : Acted) → Responds bytes true s c r → WellFormedState bytes (r .state)
@@ -107,6 +108,7 @@ module _ (a : Agent) (bytes : List ℕ) where
         length = refl;
         refused = λ x. let same = h .refused x in λ i. inState a (same i);
         fit = λ x. h .fit (sym w ∙ x);
+        count = h .count;
       })
     where
       library : (b : Bool) → (b ≡ true → bytes ≡ bytesOf a) → respondBy b (libraryOf bytes) (viewState t) (some c) ≡ callBy b (libraryOf (bytesOf a)) (viewState t) c

@@ -44,7 +44,7 @@ use Rattle.steps.specs.declared.Acted.{Acted}
 use Rattle.trials.specs.declared.changes.Altered.{Altered}
 use Rattle.steps.specs.declared.step.Step.{Step}
 use Rattle.steps.specs.Gives.{Replies}
-use Rattle.trials.specs.Altered.{Alters}
+use Rattle.trials.specs.Altered.{Alters, Within}
 use Rattle.steps.specs.View.{Sized}
 use Rattle.steps.specs.Step.{applied}
 use Rattle.agent.specs.Turnable.{placed, Standing, Turnable, ended}
@@ -55,7 +55,7 @@ use Rattle.steps.proofs.StepLaws.{step-replies, put-past, sized-enqueue, sized-
 -- ---- The reply
 
 module _ (s : State) (place : ℕ) (answer : Answer) (altered : Altered) (queue : QueueMove) (stands : Standing (requeue queue s) place)
-    (few : altered .table .count ≤ 64) where
+    (few : Within altered) where
   -- a stack goes last
   pub turned-replies : (stack : Stack) → stack .depth ≤ 7
       → Replies (ended (viewState (requeue queue s)) place (viewStack stack ∷ []) answer altered)

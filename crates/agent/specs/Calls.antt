@@ -1,12 +1,12 @@
 -- What the calls of an agent give (document 01, "The three calls", "Who may cause which refusal").
-use Prim.Native.Nat.{ℕ}
+use Prim.Native.Nat.{ℕ, _≤_}
 use mathlib.Core.Path.{_≡_}
 use mathlib.Core.Bool.{Bool, true, _&&_}
 use mathlib.Core.List.{List}
 use lib.ListN.{length, take}
 use lib.Dec.{leb}
 use Rattle.library.specs.Layout.{libraryOf}
-use Rattle.model.specs.State.{Call, Reply, viewResult}
+use Rattle.model.specs.State.{mostChanges, Call, Reply, viewResult}
 use Rattle.model.specs.Calls.{callBy, isRefusal}
 use Rattle.state.specs.declared.State.{State}
 use Rattle.state.specs.View.{viewState, countsFit}
@@ -38,8 +38,9 @@ pub record Calls (a : Agent) (c : Call) (r : Replied) : Type 0 where
   pub length : r .agent .length ≡ a .length
   -- a refusal leaves every place of the agent as it was
   pub refused : isRefusal (r .result .answer) ≡ true → r .agent ≡ a
-  -- every count stays within its array
+  -- every count stays within its array, and so does that of the changes
   pub fit : isWellFormedAgent a ≡ true → countsFit (r .agent .state) ≡ true
+  pub count : r .result .count ≤ mostChanges
 
 -- ---- Its parts
 

@@ -11,7 +11,7 @@ use lib.ListN.{length, take, drop}
 use Rattle.library.specs.Plan.{Library}
 use Rattle.library.specs.Layout.{libraryOf}
 use Rattle.model.specs.declared.Answer.the-variants.{Refused}
-use Rattle.model.specs.State.{AgentState, Call, Result, Reply, viewResult, refuse}
+use Rattle.model.specs.State.{mostChanges, AgentState, Call, Result, Reply, viewResult, refuse}
 use Rattle.model.specs.Calls.{isRefusal, callBy}
 use Rattle.state.specs.declared.State.{State}
 use Rattle.state.specs.View.{viewState, countsFit}
@@ -56,6 +56,7 @@ pub record Responds (bytes : List ℕ) (formed : Bool) (s : State) (call : Optio
   pub refused : isRefusal (r .result .answer) ≡ true → r .state ≡ s
   -- every count stays within its array
   pub fit : formed ≡ true → countsFit (r .state) ≡ true
+  pub count : r .result .count ≤ mostChanges
 
 -- what lines say, run one after the other on a state: the text of the results, and the state after them
 pub data Runs (bytes : List ℕ) (formed : Bool) (s : State) : List (Option Call) → List ℕ → State → Type 0 where

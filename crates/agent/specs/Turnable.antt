@@ -25,7 +25,7 @@ use Rattle.trials.specs.declared.changes.Altered.{Altered}
 use Rattle.steps.specs.declared.step.Step.{Step}
 use Rattle.steps.specs.View.{Sized}
 use Rattle.steps.specs.Gives.{Replies}
-use Rattle.trials.specs.Altered.{changesOf, Alters}
+use Rattle.trials.specs.Altered.{changesOf, Alters, Within}
 use Rattle.trials.specs.Trial.{changesBy}
 use Rattle.steps.specs.Step.{applied}
 
@@ -77,7 +77,7 @@ ended s place next answer altered =
 -- the step that does so, on every state: the queue moves first
 abbrev pub Ended : ℕ → List Intention → Answer → Altered → QueueMove → Step → Type 0
 Ended place next answer altered queue t =
-    (s : State) → Standing (requeue queue s) place → altered .table .count ≤ mostBeliefs
+    (s : State) → Standing (requeue queue s) place → Within altered
     → Replies (ended (viewState (requeue queue s)) place next answer altered) (applied s t)
 
 -- the step of an instance's end

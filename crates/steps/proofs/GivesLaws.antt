@@ -1,4 +1,5 @@
 -- From the code's answer to what it gives for a reply of the model.
+use native.Mathlib.Omega.{arith}
 use mathlib.Core.Path.{_≡_, refl, ap, subst⁻¹, _∙_}
 use mathlib.Core.Bool.{true, false}
 use mathlib.Core.List.{[]}
@@ -15,16 +16,17 @@ use Rattle.steps.specs.Gives.{Replies, Gives}
 -- ---- The same reply, otherwise written
 
 pub replies-as : {p q : Reply} {r : Acted} → p ≡ q → Replies p r → Replies q r
-replies-as e h = record { means = h .means ∙ e; fit = h .fit }
+replies-as e h = record { means = h .means ∙ e; fit = h .fit; count = h .count }
 
 pub gives-as : {s : State} {p q : Reply} {r : Acted} → p ≡ q → Gives s p r → Gives s q r
-gives-as e h = record { means = h .means ∙ e; fit = h .fit; refused = h .refused }
+gives-as e h = record { means = h .means ∙ e; fit = h .fit; count = h .count; refused = h .refused }
 
 -- ---- An answer with no changes
 
 -- the state is the one it was: a refusal, or idle
 pub gives-same : (s : State) (answer : Answer) (r : Acted) → r ≡ plainly s answer → countsFit s ≡ true → Gives s (reply answer [] (viewState s)) r
-gives-same s answer r e fits = subst⁻¹ (Gives s (reply answer [] (viewState s))) e (record { means = refl; fit = fits; refused = λ x. refl })
+gives-same s answer r e fits =
+    subst⁻¹ (Gives s (reply answer [] (viewState s))) e (record { means = refl; fit = fits; count = omega arith; refused = λ x. refl })
 
 -- ---- A reply that is no refusal
 
@@ -32,5 +34,6 @@ pub gives-answer : (s : State) (expected : Reply) (r : Acted) → isRefusal (exp
 gives-answer s expected r e h = record {
   means = h .means;
   fit = h .fit;
+  count = h .count;
   refused = λ q. both-ways q (ap (λ (a : Reply). isRefusal (a .result .answer)) (h .means) ∙ e);
 }

@@ -29,6 +29,7 @@ use Rattle.steps.specs.View.{Sized, plainly, stackAt}
 use Rattle.steps.specs.Gives.{Replies, Gives}
 use Rattle.steps.specs.Step.{applied}
 use Rattle.steps.specs.Outcome.{toppedStep, steppedOn, missedOn, toldStep, Awaits}
+use Rattle.trials.proofs.AlteredLaws.{untouched-within}
 use Rattle.steps.proofs.GivesLaws.{gives-as, gives-same, gives-answer}
 use Rattle.steps.proofs.CountLaws.{counts-put, counts-depth}
 use Rattle.steps.proofs.StepLaws.{step-replies}
@@ -59,7 +60,7 @@ topped-replies s place sized fit there x answer =
     step-replies s (toppedStep (s .beliefs) place (stackAt s place) x answer) (restacked (viewState s) (set (viewStacks s) place (viewStack next)))
     (put-state s place next (sized .stacks))
     (counts-put s fit (sized .stacks) place next (counts-depth s fit place noStack (sized .stacks) there))
-    (counts-parts s fit .beliefs)
+    (untouched-within (s .beliefs) (counts-parts s fit .beliefs))
 
 -- the same from the parts that the step was decided from
 module _ (library : Library) (s : State) (beliefs : Beliefs) (id place : ℕ) (stack : Stack) (h : Awaits s beliefs id place stack) where

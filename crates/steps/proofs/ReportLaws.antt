@@ -33,6 +33,7 @@ use Rattle.trials.specs.Altered.{untouched, Alters}
 use Rattle.steps.specs.Gives.{Gives}
 use Rattle.steps.specs.Step.{applied}
 use Rattle.steps.specs.Report.{heard, takenStep, TakesIn, Reports, HasNumber, Hears}
+use Rattle.trials.proofs.AlteredLaws.{altered-within}
 use Rattle.trials.proofs.TrialLaws.{untouched-alters}
 use Rattle.steps.proofs.GivesLaws.{replies-as, gives-as, gives-same, gives-answer}
 use Rattle.steps.proofs.CountLaws.{counts-enqueue}
@@ -134,7 +135,7 @@ module _ (s : State) (kind : ℕ) (l : Literal) (p : HasNumber s) (altered : Alt
       gives-answer s (takeIn (viewState s) kind l cs) (applied s t) refl
       (replies-as (λ i. arrived (changes i) (table i))
       (step-replies s t (requeued (viewState s) (viewQueue s ++ (event ∷ []))) (enqueue-state s event (p .sized .queue) (p .room))
-      (counts-enqueue s (p .fit) event) (a .few (counts-parts s (p .fit) .beliefs))))
+      (counts-enqueue s (p .fit) event) (altered-within a (counts-parts s (p .fit) .beliefs))))
 
 taken-in : (s : State) (kind : ℕ) (l : Literal) (t : Step) → HasNumber s → TakesIn (s .beliefs) (s .taken) kind l t
     → Gives s (takeIn (viewState s) kind l (reportChanges (view (s .beliefs)) kind l)) (applied s t)

@@ -27,7 +27,7 @@ use Rattle.moves.proofs.MoveLaws.{requeue-parts, restack-parts}
 use Rattle.steps.specs.declared.step.Step.{Step}
 use Rattle.steps.specs.View.{plainly, Sized}
 use Rattle.steps.specs.Gives.{Replies}
-use Rattle.trials.specs.Altered.{changesOf}
+use Rattle.trials.specs.Altered.{changesOf, Within}
 use Rattle.steps.specs.Step.{stateAfter, applied, restStep}
 
 -- ---- The reply
@@ -54,9 +54,9 @@ step-fits s t fit few =
     let counts : Counts (moved s t) = counts-parts (moved s t) fit in
     counts-whole (stateAfter s t) (record { beliefs = few; queued = counts .queued; stacked = counts .stacked; depths = counts .depths })
 
-pub step-replies : (s : State) (t : Step) (v : AgentState) → viewState (moved s t) ≡ v → countsFit (moved s t) ≡ true → t .altered .table .count ≤ 64
+pub step-replies : (s : State) (t : Step) (v : AgentState) → viewState (moved s t) ≡ v → countsFit (moved s t) ≡ true → Within (t .altered)
     → Replies (replyBy t v) (applied s t)
-step-replies s t v shown fit few = record { means = ap (replyBy t) shown; fit = step-fits s t fit few }
+step-replies s t v shown fit few = record { means = ap (replyBy t) shown; fit = step-fits s t fit (few .table); count = few .changes }
 
 -- a step in which nothing moves, on a state with its beliefs
 pub rest-applied : (s : State) (b : Beliefs) (answer : Answer) (t : Step) → t ≡ restStep b answer → s .beliefs ≡ b → applied s t ≡ plainly s answer

@@ -23,7 +23,7 @@ use Rattle.model.specs.Changes.{when, takesEffect, clearing, effective, asChang
 use Rattle.model.proofs.ChangeLaws.{replay-put}
 use Rattle.model.specs.Try.{isPossible}
 use Rattle.trials.specs.declared.changes.Altered.{Altered}
-use Rattle.trials.specs.Altered.{changesOf, untouched, removal, madeBy, notedOne, Alters, Extends, Changed}
+use Rattle.trials.specs.Altered.{changesOf, untouched, removal, madeBy, notedOne, Alters, Within, Extends, Changed}
 
 -- ---- One change
 
@@ -177,7 +177,15 @@ pub first-change : (b : Beliefs) (t a : Altered) (c : Change) → t ≡ untouche
     → Alters b (effective (view b) c) a
 first-change b t a c e h =
     let first : Extends (untouched b) (effective (view b) c) a = rw e at h in
-    record { noted = first .noted; table = first .table; few = first .few }
+    record { noted = first .noted; table = first .table; few = first .few; count = omega (arith, first .count) }
+
+-- ---- The counts
+
+pub untouched-within : (b : Beliefs) → b .count ≤ 64 → Within (untouched b)
+untouched-within b few = record { table = few; changes = omega arith }
+
+pub altered-within : {b : Beliefs} {changes : List Change} {a : Altered} → Alters b changes a → b .count ≤ 64 → Within a
+altered-within h few = record { table = h .few few; changes = h .count }
 
 -- ---- A list of actions
 

@@ -32,7 +32,8 @@ pub untouched-alters : (b : Beliefs) (a : Altered) → a ≡ untouched b → Alt
 unfolding replay
 untouched-alters b a e =
     let table = ap (λ (x : Altered). x .table) e in
-    record { noted = ap changesOf e; table = ap view table; few = λ few. rw table few }
+    let count = ap (λ (x : Altered). x .count) e in
+    record { noted = ap changesOf e; table = ap view table; few = λ few. rw table few; count = omega (arith, count) }
 
 pub plain-tries : (b : Beliefs) (env : Env) (outcome : Outcome) (a : Altered) → a ≡ untouched b
     → Tries b (viewOutcome outcome env []) (record { outcome = outcome; env = env; altered = a })

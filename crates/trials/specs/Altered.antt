@@ -33,11 +33,18 @@ untouched beliefs = record { table = beliefs; changes = replicate mostChanges no
 abbrev pub notedOne : Altered → Change → Altered
 notedOne t c = record { table = t .table; changes = set (t .changes) (t .count) c; count = t .count + 1 }
 
--- the table is that of the beliefs after the changes, and those are the changes noted; a count that fits still does
+-- the table is that of the beliefs after the changes, and those are the changes noted; a count that fits still does,
+-- and there are no more changes than places for them
 pub record Alters (beliefs : Beliefs) (changes : List Change) (a : Altered) : Type 0 where
   pub noted : changesOf a ≡ changes
   pub table : view (a .table) ≡ replay (view beliefs) changes
   pub few : beliefs .count ≤ mostBeliefs → a .table .count ≤ mostBeliefs
+  pub count : a .count ≤ mostChanges
+
+-- both counts are within their arrays
+pub record Within (a : Altered) : Type 0 where
+  pub table : a .table .count ≤ mostBeliefs
+  pub changes : a .count ≤ mostChanges
 
 -- the same, from a table with some changes already
 pub record Extends (t : Altered) (changes : List Change) (a : Altered) : Type 0 where

@@ -22,6 +22,7 @@ use Rattle.moves.specs.declared.QueueMove.{QueueMove}
 use Rattle.moves.specs.declared.QueueMove.the-variants as queue
 use Rattle.moves.specs.Moves.{requeue}
 use Rattle.trials.specs.Altered.{Alters}
+use Rattle.trials.proofs.AlteredLaws.{altered-within}
 use Rattle.steps.proofs.GivesLaws.{replies-as}
 use Rattle.agent.specs.Turnable.{Ended}
 use Rattle.agent.proofs.TurnLaws.{mark-requeues, ended-after}
@@ -59,7 +60,7 @@ returns c = λ s e stands.
     let q = mark-requeues s (a .place) stands served (x .plan) (omega (arith, few-plans bytes (pre .accepted), pre .plan)) in
     replies-as (ended-after s (requeue (queue.Mark served (x .plan)) s) (a .place) (a .stack) (popped (a .stack .external) (λ (below : Instance). below) (viewStack (a .stack) .below)) (Failed (x .id))
     (effects (view (s .beliefs)) (x .env) actions) (markEvent (x .plan) served (viewQueue s)) ((c .before .before .list-run) .result) here (q .shown))
-    (gives s (q .standing) (alters .few (pre .few)))
+    (gives s (q .standing) (altered-within alters (pre .few)))
 
 pub fail-spec : {M : Type 1} → statement M
 fail-spec =

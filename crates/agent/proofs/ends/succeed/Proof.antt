@@ -20,6 +20,7 @@ use Rattle.moves.specs.declared.QueueMove.{QueueMove}
 use Rattle.moves.specs.declared.QueueMove.the-variants as queue
 use Rattle.moves.specs.Moves.{requeue}
 use Rattle.trials.specs.Altered.{Alters}
+use Rattle.trials.proofs.AlteredLaws.{altered-within}
 use Rattle.steps.proofs.GivesLaws.{replies-as}
 use Rattle.agent.specs.Turnable.{Ended}
 use Rattle.agent.proofs.TurnLaws.{close-requeues, ended-after}
@@ -57,7 +58,7 @@ returns c = λ s e stands.
     let q = close-requeues s (a .place) stands served in
     replies-as (ended-after s (requeue (queue.Close served) s) (a .place) (a .stack) (popped (a .stack .external) (pastBranch (libraryOf bytes)) (viewStack (a .stack) .below)) (Succeeded (x .id))
     (effects (view (s .beliefs)) (x .env) actions) (closeEvent served (viewQueue s)) ((c .before .before .list-run) .result) here (q .shown))
-    (gives s (q .standing) (alters .few (pre .few)))
+    (gives s (q .standing) (altered-within alters (pre .few)))
 
 pub succeed-spec : {M : Type 1} → statement M
 succeed-spec =

@@ -7,6 +7,7 @@ use Rattle.model.specs.declared.Instance.{Instance}
 use Rattle.model.specs.Try.{withTop, tried}
 use Rattle.state.specs.View.{viewStack, viewQueue, viewState}
 use Rattle.state.proofs.CountParts.{counts-parts}
+use Rattle.trials.proofs.AlteredLaws.{altered-within}
 use Rattle.agent.specs.Turnable.{ended}
 use Rattle.steps.proofs.GivesLaws.{replies-as}
 use Rattle.agent.proofs.TurnLaws.{ended-after}
@@ -25,7 +26,7 @@ returns c = λ s stands alters room.
     let a = (c .before .before .before .before .args) in
     replies-as (ap (λ (x : Instance). ended (viewState s) (a .place) (withTop (viewStack (a .stack)) x ∷ []) (Missed (a .stack .top .id) (a .stack .top .state) (a .stack .top .tried)) (a .altered)) ((c .before .before .with-try) .ensures)
     ∙ ended-after s s (a .place) (a .stack) _ _ [] (viewQueue s) (a .altered) alters refl)
-    ((c .turned) .ensures s stands (alters .few (counts-parts s (stands .counts) .beliefs)))
+    ((c .turned) .ensures s stands (altered-within alters (counts-parts s (stands .counts) .beliefs)))
 
 pub on-missed-spec : {M : Type 1} → statement M
 on-missed-spec = tie.close (tie.spec with-try-requires turned-requires returns)

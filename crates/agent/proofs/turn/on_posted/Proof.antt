@@ -8,6 +8,7 @@ use Rattle.model.specs.Try.{withTop, newGoal, tried}
 use Rattle.state.specs.View.{viewStack, viewQueue, viewState}
 use Rattle.state.specs.Queue.{enqueue}
 use Rattle.state.proofs.CountParts.{counts-parts}
+use Rattle.trials.proofs.AlteredLaws.{altered-within}
 use Rattle.agent.specs.Turnable.{ended}
 use Rattle.steps.proofs.GivesLaws.{replies-as}
 use Rattle.agent.proofs.TurnLaws.{enqueue-requeues, ended-after}
@@ -29,7 +30,7 @@ returns c = λ s stands alters room.
     let q = enqueue-requeues s (a .place) stands event (room (a .goal) refl) in
     replies-as (ap (λ (y : Instance). ended (viewState (enqueue s event)) (a .place) (withTop (viewStack (a .stack)) y ∷ []) (Posted (x .id) (x .state) (x .tried)) (a .altered)) ((c .before .before .with-try) .ensures)
     ∙ ended-after s (enqueue s event) (a .place) (a .stack) _ _ [] (viewQueue s ++ (event ∷ [])) (a .altered) alters (q .shown))
-    ((c .turned) .ensures s (q .standing) (alters .few (counts-parts s (stands .counts) .beliefs)))
+    ((c .turned) .ensures s (q .standing) (altered-within alters (counts-parts s (stands .counts) .beliefs)))
 
 pub on-posted-spec : {M : Type 1} → statement M
 on-posted-spec = tie.close (tie.spec with-try-requires turned-requires returns)

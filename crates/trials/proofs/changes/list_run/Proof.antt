@@ -92,6 +92,7 @@ returns c =
       noted = all;
       table = l .inv .1 .1 .1 .1 ∙ ap (λ (t : Altered). replay (view (t .table)) (changesOf (l .t))) start ∙ ap (replay (view (a .b))) all;
       few = λ few. l .inv .1 .1 .0 (rw start few);
+      count = omega (arith, l .inv .1 .0, l .inv .0, (c .before .before .before .list-count) .ensures);
     }
 
 pub list-run-spec : {M : Type 1} → statement M
