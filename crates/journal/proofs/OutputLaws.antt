@@ -1,15 +1,18 @@
 -- What a journal of a well-formed agent prints is what the definition computes, since each of its calls is the model's.
-use Prim.Native.Nat.{ℕ}
+use Prim.Native.Nat.{ℕ, _≤_, _<_}
+use native.Mathlib.Omega.{arith}
 use mathlib.Core.Path.{_≡_, refl, ap, sym, _∙_}
 use mathlib.Core.Bool.{true, false}
 use mathlib.Core.Option.{Option, none, some}
 use mathlib.Core.List.{List, [], _∷_, _++_, map}
 use lib.Dec.{eqb}
-use borrow.Author.Tests.{ne-eqb}
+use lib.ListN.{length}
+use borrow.Author.Tests.{ne-eqb, lt-ltb, le-ltb}
 use Rattle.lists.specs.Counts.{each}
 use Rattle.library.specs.Plan.{Library}
 use Rattle.library.specs.Layout.{libraryOf}
 use Rattle.accepted.specs.Refusal.{refusalOf}
+use Rattle.accepted.proofs.Size.{library-most}
 use Rattle.model.specs.State.{AgentState, Call, Reply}
 use Rattle.model.specs.Calls.{call}
 use Rattle.state.specs.View.{viewState}
@@ -29,7 +32,7 @@ use Rattle.agent.proofs.CallsLaws.{test-parts, test-within}
 use Rattle.agent.proofs.ChainLaws.{Held, held-call, held-next, loaded-held}
 use Rattle.journal.specs.Session.{Session}
 use Rattle.journal.specs.Answers.{callIn, textOf, linksOf}
-use Rattle.journal.specs.Output.{replyTo, answersTo, outputOf, refusedWith, printedFor}
+use Rattle.journal.specs.Output.{replyTo, answersTo, outputOf, mostFile, fileRefusal, refusedWith, printedFor}
 use Rattle.journal.proofs.SessionLaws.{session-journal}
 use Rattle.journal.proofs.AnswerLaws.{journal-chain}
 
@@ -104,12 +107,20 @@ module _ (bytes : List ℕ) (accepted : refusalOf bytes ≡ 0) (l : Loaded) (loa
         ∙ ap (λ (x : AgentState). answersTo (libraryOf bytes) x (map callOf (lines input))) (loads .state accepted)
 
     pub session-printed : output ≡ printedFor bytes input
-    unfolding printedFor
-    session-printed = session-output ∙ rw accepted
+    unfolding printedFor fileRefusal
+    session-printed =
+        let short = le-ltb mostFile (length bytes) (omega (arith, library-most bytes accepted)) in
+        session-output ∙ rw (short, accepted)
 
 -- where load refuses the library the output is X and its number
-pub refused-printed : (bytes input : List ℕ) (l : Loaded) → Loads bytes l → (l .refusal ≡ 0 → ⊥) → refusedWith (l .refusal) ≡ printedFor bytes input
-unfolding printedFor
-refused-printed bytes input l loads refused =
+pub refused-printed : (bytes input : List ℕ) → length bytes ≤ mostFile → (l : Loaded) → Loads bytes l → (l .refusal ≡ 0 → ⊥)
+    → refusedWith (l .refusal) ≡ printedFor bytes input
+unfolding printedFor fileRefusal
+refused-printed bytes input short l loads refused =
     let other : eqb (refusalOf bytes) 0 ≡ false = ne-eqb (refusalOf bytes) 0 (λ e. refused (loads .number ∙ e)) in
-    rw (loads .number, other)
+    rw (le-ltb mostFile (length bytes) short, loads .number, other)
+
+-- where its file is too long to be loaded, X 2
+pub long-printed : (bytes input : List ℕ) → mostFile < length bytes → refusedWith 2 ≡ printedFor bytes input
+unfolding printedFor fileRefusal
+long-printed bytes input long = rw (lt-ltb mostFile (length bytes) long)

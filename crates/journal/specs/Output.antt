@@ -3,7 +3,8 @@ use Prim.Native.Nat.{ℕ}
 use mathlib.Core.Bool.{cond}
 use mathlib.Core.Option.{Option}
 use mathlib.Core.List.{List, [], _∷_, _++_, map}
-use lib.Dec.{eqb}
+use lib.Dec.{ltb, eqb}
+use lib.ListN.{length}
 use Rattle.library.specs.Plan.{Library}
 use Rattle.library.specs.Layout.{libraryOf}
 use Rattle.accepted.specs.Refusal.{refusalOf}
@@ -30,10 +31,18 @@ answersTo library s (said ∷ more) =
 unfoldable pub outputOf : List ℕ → List ℕ → List ℕ
 outputOf bytes input = answersTo (libraryOf bytes) (loaded (libraryOf bytes)) (map callOf (lines input))
 
+-- the longest file of a library
+abbrev pub mostFile : ℕ
+mostFile = 65535
+
+-- the refusal of a library's file: 2 where it is too long, else load's; 0 where there is none
+unfoldable pub fileRefusal : List ℕ → ℕ
+fileRefusal bytes = cond (ltb mostFile (length bytes)) 2 (refusalOf bytes)
+
 -- X and the number where the library is refused
 abbrev pub refusedWith : ℕ → List ℕ
 refusedWith number = resultText (record { answer = Refused number; changes = [] })
 
 -- the whole output
 unfoldable pub printedFor : List ℕ → List ℕ → List ℕ
-printedFor bytes input = cond (eqb (refusalOf bytes) 0) (outputOf bytes input) (refusedWith (refusalOf bytes))
+printedFor bytes input = cond (eqb (fileRefusal bytes) 0) (outputOf bytes input) (refusedWith (fileRefusal bytes))
