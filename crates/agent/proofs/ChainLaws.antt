@@ -35,7 +35,7 @@ pub record Held (bytes : List ℕ) (a : Agent) : Type 0 where
   pub formed : isWellFormed (libraryOf bytes) (viewState (a .state)) ≡ true
 
 module _ (bytes : List ℕ) (accepted : refusalOf bytes ≡ 0) where
-  held-formed : (a : Agent) → Held bytes a → isWellFormedAgent a ≡ true
+  pub held-formed : (a : Agent) → Held bytes a → isWellFormedAgent a ≡ true
   unfolding isWellFormedWith isFormed isStateFormed
   held-formed a h =
       let own = subst⁻¹ (λ (b : List ℕ). (eqb (refusalOf b) 0 && (countsFit (a .state) && isWellFormed (libraryOf b) (viewState (a .state)))) ≡ true) (h .bytes-are)

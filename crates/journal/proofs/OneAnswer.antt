@@ -1,8 +1,8 @@
--- The contract of `feed` allows one answer on a well-formed agent: of two, neither has read more than the other.
+-- The contract of `feed` allows one answer: of two, neither has read more than the other.
 use Prim.Native.Nat.{ℕ, _+_, _-_, _≤_, _<_}
 use native.Mathlib.Omega.{arith}
 use mathlib.Core.Path.{_≡_, refl, ap, sym, _∙_}
-use mathlib.Core.Bool.{true, cond}
+use mathlib.Core.Bool.{cond}
 use mathlib.Core.Logic.{_⊎_, inl, inr, ⊎-elim}
 use mathlib.Core.Option.{Option, none, some}
 use mathlib.Core.List.{List, [], _∷_, _++_, append-nil, append-assoc, append-cancel-right}
@@ -13,9 +13,7 @@ use borrow.Author.Tests.{ltb-true, ltb-false, leb-true, leb-false}
 use Rattle.lists.proofs.BoolLaws.{by-cases, both-ways}
 use Rattle.lists.proofs.AllLaws.{none-at}
 use Rattle.lists.proofs.OptionLaws.{some-equal, none-some}
-use Rattle.library.specs.Plan.{Library}
-use Rattle.library.specs.Layout.{libraryOf}
-use Rattle.model.specs.State.{AgentState, Call}
+use Rattle.model.specs.State.{AgentState, Call, Reply}
 use Rattle.model.specs.Lines.{lineOf}
 use Rattle.state.specs.View.{viewState}
 use Rattle.printing.specs.LineText.{newline, resultText, mostLine, IsLine}
@@ -27,13 +25,11 @@ use Rattle.stream.specs.Carried.{kept, begun, more, said}
 use Rattle.stream.specs.Calls.{callsFrom, lineAfter}
 use Rattle.stream.proofs.ChunkLaws.{after-join}
 use Rattle.load.specs.declared.Agent.{Agent}
-use Rattle.load.specs.Load.{bytesOf}
 use Rattle.agent.specs.declared.feed.Fed.{Fed}
-use Rattle.agent.specs.Calls.{isWellFormedAgent}
 use Rattle.agent.specs.Feed.{Journal, start, unread, answered, Roomy, silent, roomy, Feeds}
-use Rattle.journal.specs.Output.{replyTo, answersTo}
+use Rattle.journal.specs.Output.{answersBy}
 use Rattle.journal.specs.OneAnswer.{Same}
-use Rattle.journal.proofs.OutputLaws.{stateTo, journal-computed, journal-state}
+use Rattle.journal.proofs.OutputLaws.{stateBy, replyOf, journal-computed, journal-state}
 
 -- ---- The lines that end in some bytes
 
@@ -85,27 +81,28 @@ stays-begun held (b ∷ bytes) h c e =
 abbrev EndsLine : List ℕ → Type 0
 EndsLine text = (text ≡ []) ⊎ ((body : List ℕ) × (text ≡ body ++ (newline ∷ [])))
 
-answers-join : (library : Library) (s : AgentState) (xs ys : List (Option Call))
-    → answersTo library s (xs ++ ys) ≡ answersTo library s xs ++ answersTo library (stateTo library s xs) ys
-unfolding answersTo
-answers-join library s [] ys = refl
-answers-join library s (x ∷ xs) ys =
-    let line = resultText (replyTo library s x .result) in
-    let next = replyTo library s x .state in
-    ap (λ (text : List ℕ). line ++ text) (answers-join library next xs ys)
-    ∙ sym (append-assoc line (answersTo library next xs) (answersTo library (stateTo library next xs) ys))
+module _ (reply : AgentState → Option Call → Reply) where
+  answers-join : (s : AgentState) (xs ys : List (Option Call))
+      → answersBy reply s (xs ++ ys) ≡ answersBy reply s xs ++ answersBy reply (stateBy reply s xs) ys
+  unfolding answersBy
+  answers-join s [] ys = refl
+  answers-join s (x ∷ xs) ys =
+      let line = resultText (reply s x .result) in
+      let next = reply s x .state in
+      ap (λ (text : List ℕ). line ++ text) (answers-join next xs ys)
+      ∙ sym (append-assoc line (answersBy reply next xs) (answersBy reply (stateBy reply next xs) ys))
 
-answers-end : (library : Library) (s : AgentState) (calls : List (Option Call)) → EndsLine (answersTo library s calls)
-unfolding answersTo
-answers-end library s [] = inl refl
-answers-end library s (x ∷ xs) =
-    let result = replyTo library s x .result in
-    let line = resultText result in
-    let l : IsLine line = one-newline (lineOf result) in
-    ⊎-elim
-    (λ e. inr (l .body, ap (λ (text : List ℕ). line ++ text) e ∙ append-nil line ∙ l .ends))
-    (λ e. inr (line ++ e .0, ap (λ (text : List ℕ). line ++ text) (e .1) ∙ sym (append-assoc line (e .0) (newline ∷ []))))
-    (answers-end library (replyTo library s x .state) xs)
+  answers-end : (s : AgentState) (calls : List (Option Call)) → EndsLine (answersBy reply s calls)
+  unfolding answersBy
+  answers-end s [] = inl refl
+  answers-end s (x ∷ xs) =
+      let result = reply s x .result in
+      let line = resultText result in
+      let l : IsLine line = one-newline (lineOf result) in
+      ⊎-elim
+      (λ e. inr (l .body, ap (λ (text : List ℕ). line ++ text) e ∙ append-nil line ∙ l .ends))
+      (λ e. inr (line ++ e .0, ap (λ (text : List ℕ). line ++ text) (e .1) ∙ sym (append-assoc line (e .0) (newline ∷ []))))
+      (answers-end (reply s x .state) xs)
 
 -- no text that ends with a newline ends within a line
 within-line : (text line front back : List ℕ) → IsLine line → text ++ line ≡ front ++ back → 0 < length back → length text < length front
@@ -142,7 +139,7 @@ rooms size (roomy text result room) front back e h ends =
 -- ---- A journal
 
 abbrev answers : Agent → List (Option Call) → List ℕ
-answers a calls = answersTo (libraryOf (bytesOf a)) (viewState (a .state)) calls
+answers a calls = answersBy (replyOf a) (viewState (a .state)) calls
 
 -- a call leaves the library alone
 library-kept : {a b : Agent} {calls : List (Option Call)} {text : List ℕ} → Journal a calls text b → (b .library ≡ a .library) × (b .length ≡ a .length)
@@ -152,7 +149,7 @@ library-kept (answered j c r h) = let k = library-kept j in (h .library ∙ k .0
 
 -- ---- Two answers
 
-module _ {a : Agent} (formed : isWellFormedAgent a ≡ true) {carry : Carry} {chunk before : List ℕ} where
+module _ {a : Agent} {carry : Carry} {chunk before : List ℕ} where
   module _ {after : List ℕ} {r : Fed} (f : Feeds a carry chunk before after r) where
     same-size : length after ≡ length before
     same-size = ap length (f .written .bytes) ∙ length-sets before 0 (f .text)
@@ -169,7 +166,7 @@ module _ {a : Agent} (formed : isWellFormedAgent a ≡ true) {carry : Carry} {ch
         ∙ ap (λ (o : Option (List ℕ)). callsIn (begun carry) (take (r .read) chunk) ++ callsFrom o rest) (sym (f .so-far)))
 
     texts : f .text ≡ answers a (f .calls)
-    texts = journal-computed formed (f .journal)
+    texts = journal-computed (f .journal)
 
   module _ {after other : List ℕ} {r q : Fed} (f : Feeds a carry chunk before after r) (g : Feeds a carry chunk before other q) (less : r .read < q .read) where
     -- what the second has read beyond the first
@@ -216,21 +213,20 @@ module _ {a : Agent} (formed : isWellFormedAgent a ≡ true) {carry : Carry} {ch
 
     -- and one that ended there was run without room
     some-ended : (c : Option Call) (cs : List (Option Call)) → callsIn (begun (r .carry)) beyond ≡ c ∷ cs → ⊥
-    unfolding answersTo
+    unfolding answersBy
     some-ended c cs e =
-        let library = libraryOf (bytesOf a) in
-        let s = stateTo library (viewState (a .state)) (f .calls) in
-        let line = resultText (replyTo library s c .result) in
-        let l : IsLine line = one-newline (lineOf (replyTo library s c .result)) in
-        let rest = answersTo library (replyTo library s c .state) cs in
+        let s = stateBy (replyOf a) (viewState (a .state)) (f .calls) in
+        let line = resultText (replyOf a s c .result) in
+        let l : IsLine line = one-newline (lineOf (replyOf a s c .result)) in
+        let rest = answersBy (replyOf a) (replyOf a s c .state) cs in
         let split : g .text ≡ f .text ++ (line ++ rest)
         = texts g ∙ ap (answers a) (calls-beyond ∙ ap (λ (calls : List (Option Call)). f .calls ++ calls) e)
-        ∙ answers-join library (viewState (a .state)) (f .calls) (c ∷ cs)
+        ∙ answers-join (replyOf a) (viewState (a .state)) (f .calls) (c ∷ cs)
         ∙ ap (λ (text : List ℕ). text ++ (line ++ rest)) (sym (texts f)) in
         let sizes = length-append line rest in
         let one = ap length (l .ends) ∙ length-append (l .body) (newline ∷ []) in
         let room = rooms (length before) (g .roomy) (f .text) (line ++ rest) split (omega (arith, sizes, one))
-        (rw (texts f) (answers-end library (viewState (a .state)) (f .calls))) in
+        (rw (texts f) (answers-end (replyOf a) (viewState (a .state)) (f .calls))) in
         absurd (omega (arith, room, full, same-size f, f .written .past))
 
     not-behind : ⊥
@@ -260,6 +256,5 @@ module _ {a : Agent} (formed : isWellFormedAgent a ≡ true) {carry : Carry} {ch
         so-far = f .so-far ∙ ap (λ (n : ℕ). lineAfter (begun carry) (take n chunk)) read ∙ sym (g .so-far);
         library = library-kept (f .journal) .0 ∙ sym (library-kept (g .journal) .0);
         length = library-kept (f .journal) .1 ∙ sym (library-kept (g .journal) .1);
-        state = journal-state formed (f .journal)
-            ∙ ap (stateTo (libraryOf (bytesOf a)) (viewState (a .state))) calls ∙ sym (journal-state formed (g .journal));
+        state = journal-state (f .journal) ∙ ap (stateBy (replyOf a) (viewState (a .state))) calls ∙ sym (journal-state (g .journal));
       }

@@ -1,20 +1,20 @@
--- What a journal of a well-formed agent prints is what the definition computes, since each of its calls is the model's.
+-- What a journal prints is what the definition computes, since each of its calls is the model's.
 use Prim.Native.Nat.{ℕ, _≤_, _<_}
 use native.Mathlib.Omega.{arith}
 use mathlib.Core.Path.{_≡_, refl, ap, sym, _∙_}
-use mathlib.Core.Bool.{true, false}
+use mathlib.Core.Bool.{Bool, true, false}
 use mathlib.Core.Option.{Option, none, some}
 use mathlib.Core.List.{List, [], _∷_, _++_, map}
 use lib.Dec.{eqb}
-use lib.ListN.{length}
+use lib.ListN.{length, take}
 use borrow.Author.Tests.{ne-eqb, lt-ltb, le-ltb}
 use Rattle.lists.specs.Counts.{each}
-use Rattle.library.specs.Plan.{Library}
+use Rattle.lists.proofs.BoolLaws.{by-cases}
 use Rattle.library.specs.Layout.{libraryOf}
 use Rattle.accepted.specs.Refusal.{refusalOf}
 use Rattle.accepted.proofs.Size.{library-most}
-use Rattle.model.specs.State.{AgentState, Call, Reply}
-use Rattle.model.specs.Calls.{call}
+use Rattle.model.specs.State.{AgentState, Call, Reply, refuse}
+use Rattle.model.specs.Calls.{isRefusal, callBy, call}
 use Rattle.state.specs.View.{viewState}
 use Rattle.printing.specs.LineText.{resultText}
 use Rattle.reading.specs.Call.{callOf}
@@ -29,55 +29,57 @@ use Rattle.agent.specs.Chain.{Link, Chain}
 use Rattle.agent.specs.Chain as Chain
 use Rattle.agent.specs.Feed.{respondBy, Journal}
 use Rattle.agent.proofs.CallsLaws.{test-parts, test-within}
-use Rattle.agent.proofs.ChainLaws.{Held, held-call, held-next, loaded-held}
+use Rattle.agent.proofs.ChainLaws.{Held, held-formed, held-call, held-next, loaded-held}
 use Rattle.journal.specs.Session.{Session}
 use Rattle.journal.specs.Answers.{callIn, textOf, linksOf}
-use Rattle.journal.specs.Output.{replyTo, answersTo, outputOf, mostFile, fileRefusal, refusedWith, printedFor}
+use Rattle.journal.specs.Output.{answersBy, replyTo, outputOf, mostFile, fileRefusal, refusedWith, printedFor}
 use Rattle.journal.proofs.SessionLaws.{session-journal}
 use Rattle.journal.proofs.AnswerLaws.{journal-chain}
 
 -- ---- Line by line
 
 -- the state after what lines say
-abbrev pub stateTo : Library → AgentState → List (Option Call) → AgentState
-stateTo library s [] = s
-stateTo library s (said ∷ more) = stateTo library (replyTo library s said .state) more
+abbrev pub stateBy : (AgentState → Option Call → Reply) → AgentState → List (Option Call) → AgentState
+stateBy reply s [] = s
+stateBy reply s (said ∷ more) = stateBy reply (reply s said .state) more
 
-module _ (bytes : List ℕ) (accepted : refusalOf bytes ≡ 0) where
-  held-reply : (a : Agent) → Held bytes a → (link : Link) → Calls a (link .call) (link .given)
-      → viewReplied (link .given) ≡ replyTo (libraryOf bytes) (viewState (a .state)) (some (link .call))
-  unfolding replyTo respondBy call
-  held-reply a h link k = held-call bytes accepted a h link k
-
-  texts-computed : {a b : Agent} → Held bytes a → (answers : List (Option Link)) → Chain a (linksOf answers) b
-      → each textOf answers ≡ answersTo (libraryOf bytes) (viewState (a .state)) (map callIn answers)
-  unfolding answersTo replyTo respondBy
+-- where these replies are those of the agent's calls, on every agent that the calls lead to
+module _ (Good : Agent → Type 0) (reply : AgentState → Option Call → Reply) (unread : (s : AgentState) → reply s none ≡ refuse 0 s)
+    (means : (a : Agent) → Good a → (link : Link) → Calls a (link .call) (link .given)
+    → viewReplied (link .given) ≡ reply (viewState (a .state)) (some (link .call)))
+    (next : (a : Agent) → Good a → (link : Link) → Calls a (link .call) (link .given) → Good (link .given .agent)) where
+  texts-computed : {a b : Agent} → Good a → (answers : List (Option Link)) → Chain a (linksOf answers) b
+      → each textOf answers ≡ answersBy reply (viewState (a .state)) (map callIn answers)
+  unfolding answersBy
   texts-computed h [] c = refl
-  texts-computed {a} h (none ∷ answers) c = ap (λ (text : List ℕ). textOf none ++ text) (texts-computed h answers c)
+  texts-computed {a} h (none ∷ answers) c =
+      ap (λ (text : List ℕ). textOf none ++ text) (texts-computed h answers c)
+      ∙ ap (λ (y : Reply). resultText (y .result) ++ answersBy reply (y .state) (map callIn answers)) (sym (unread (viewState (a .state))))
   texts-computed {a} h (some link ∷ answers) (Chain.then l k rest) =
-      ap (λ (text : List ℕ). textOf (some link) ++ text) (texts-computed (held-next bytes accepted a h link k) answers rest)
-      ∙ ap (λ (y : Reply). resultText (y .result) ++ answersTo (libraryOf bytes) (y .state) (map callIn answers)) (held-reply a h link k)
+      ap (λ (text : List ℕ). textOf (some link) ++ text) (texts-computed (next a h link k) answers rest)
+      ∙ ap (λ (y : Reply). resultText (y .result) ++ answersBy reply (y .state) (map callIn answers)) (means a h link k)
 
-  held-computed : {a b : Agent} {calls : List (Option Call)} {text : List ℕ} → Held bytes a → Journal a calls text b
-      → text ≡ answersTo (libraryOf bytes) (viewState (a .state)) calls
-  held-computed {a} h j =
-      let s = journal-chain j in
-      sym (s .printed) ∙ texts-computed h (s .answers) (s .chain) ∙ ap (answersTo (libraryOf bytes) (viewState (a .state))) (s .lines)
-
-  states-computed : {a b : Agent} → Held bytes a → (answers : List (Option Link)) → Chain a (linksOf answers) b
-      → viewState (b .state) ≡ stateTo (libraryOf bytes) (viewState (a .state)) (map callIn answers)
-  unfolding replyTo respondBy
+  states-computed : {a b : Agent} → Good a → (answers : List (Option Link)) → Chain a (linksOf answers) b
+      → viewState (b .state) ≡ stateBy reply (viewState (a .state)) (map callIn answers)
   states-computed h [] Chain.start = refl
-  states-computed h (none ∷ answers) c = states-computed h answers c
+  states-computed {a} h (none ∷ answers) c =
+      states-computed h answers c ∙ ap (λ (y : Reply). stateBy reply (y .state) (map callIn answers)) (sym (unread (viewState (a .state))))
   states-computed {a} h (some link ∷ answers) (Chain.then l k rest) =
-      states-computed (held-next bytes accepted a h link k) answers rest
-      ∙ ap (λ (y : Reply). stateTo (libraryOf bytes) (y .state) (map callIn answers)) (held-reply a h link k)
+      states-computed (next a h link k) answers rest
+      ∙ ap (λ (y : Reply). stateBy reply (y .state) (map callIn answers)) (means a h link k)
 
-  held-state : {a b : Agent} {calls : List (Option Call)} {text : List ℕ} → Held bytes a → Journal a calls text b
-      → viewState (b .state) ≡ stateTo (libraryOf bytes) (viewState (a .state)) calls
-  held-state {a} h j =
-      let s = journal-chain j in
-      states-computed h (s .answers) (s .chain) ∙ ap (stateTo (libraryOf bytes) (viewState (a .state))) (s .lines)
+  module _ {a b : Agent} {calls : List (Option Call)} {text : List ℕ} (h : Good a) (j : Journal a calls text b) where
+    text-by : text ≡ answersBy reply (viewState (a .state)) calls
+    text-by =
+        let s = journal-chain j in
+        sym (s .printed) ∙ texts-computed h (s .answers) (s .chain) ∙ ap (answersBy reply (viewState (a .state))) (s .lines)
+
+    state-by : viewState (b .state) ≡ stateBy reply (viewState (a .state)) calls
+    state-by =
+        let s = journal-chain j in
+        states-computed h (s .answers) (s .chain) ∙ ap (stateBy reply (viewState (a .state))) (s .lines)
+
+-- ---- Any agent
 
 -- a well-formed agent holds its library
 holds-own : (a : Agent) → isWellFormedAgent a ≡ true → Held (bytesOf a) a
@@ -85,15 +87,49 @@ holds-own a e =
     let w = test-parts (a .library) (a .length) (a .state) e in
     record { size = test-within (a .library) (a .length) (a .state) e; bytes-are = refl; fit = w .fit; formed = w .formed }
 
--- the text of a journal on a well-formed agent is computed from its library, its state and what the lines say
-pub journal-computed : {a b : Agent} {calls : List (Option Call)} {text : List ℕ} → isWellFormedAgent a ≡ true → Journal a calls text b
-    → text ≡ answersTo (libraryOf (bytesOf a)) (viewState (a .state)) calls
-journal-computed {a} e j = held-computed (bytesOf a) (test-parts (a .library) (a .length) (a .state) e .accepted) (holds-own a e) j
+-- an agent with this library, well formed or not
+abbrev Kept : Bool → List ℕ → Agent → Type 0
+Kept formed bytes a = (isWellFormedAgent a ≡ formed) × (bytesOf a ≡ bytes)
 
--- and so is the state after it
-pub journal-state : {a b : Agent} {calls : List (Option Call)} {text : List ℕ} → isWellFormedAgent a ≡ true → Journal a calls text b
-    → viewState (b .state) ≡ stateTo (libraryOf (bytesOf a)) (viewState (a .state)) calls
-journal-state {a} e j = held-state (bytesOf a) (test-parts (a .library) (a .length) (a .state) e .accepted) (holds-own a e) j
+module _ (formed : Bool) (bytes : List ℕ) (a : Agent) (kept : Kept formed bytes a) (link : Link) (c : Calls a (link .call) (link .given)) where
+  kept-reply : viewReplied (link .given) ≡ respondBy formed (libraryOf bytes) (viewState (a .state)) (some (link .call))
+  unfolding respondBy
+  kept-reply =
+      c .means ∙ ap (λ (b : Bool). callBy b (libraryOf (bytesOf a)) (viewState (a .state)) (link .call)) (kept .0)
+      ∙ ap (λ (l : List ℕ). callBy formed (libraryOf l) (viewState (a .state)) (link .call)) (kept .1)
+
+  -- a call keeps an agent well formed, and one that is not as it is
+  same-test : isWellFormedAgent (link .given .agent) ≡ isWellFormedAgent a
+  unfolding callBy
+  same-test = by-cases (isWellFormedAgent a)
+      (λ e. let w = test-parts (a .library) (a .length) (a .state) e in
+      held-formed (bytesOf a) (w .accepted) (link .given .agent) (held-next (bytesOf a) (w .accepted) a (holds-own a e) link c) ∙ sym e)
+      (λ e. ap isWellFormedAgent (c .refused (ap (λ (y : Reply). isRefusal (y .result .answer))
+      (c .means ∙ ap (λ (b : Bool). callBy b (libraryOf (bytesOf a)) (viewState (a .state)) (link .call)) e))))
+
+  kept-next : Kept formed bytes (link .given .agent)
+  kept-next =
+      let next = link .given .agent in
+      (same-test ∙ kept .0, ap (λ (n : ℕ). take n (next .library)) (c .length) ∙ ap (take (a .length)) (c .library) ∙ kept .1)
+
+-- the reply of an agent's calls, from what the test says of it on
+abbrev pub replyOf : Agent → AgentState → Option Call → Reply
+replyOf a = respondBy (isWellFormedAgent a) (libraryOf (bytesOf a))
+
+module _ {a b : Agent} {calls : List (Option Call)} {text : List ℕ} (j : Journal a calls text b) where
+  -- the text of a journal is computed from the agent's library, whether it is well formed, its state and what the lines say
+  pub journal-computed : text ≡ answersBy (replyOf a) (viewState (a .state)) calls
+  unfolding respondBy
+  journal-computed =
+      text-by (Kept (isWellFormedAgent a) (bytesOf a)) (replyOf a) (λ s. refl) (kept-reply (isWellFormedAgent a) (bytesOf a))
+      (kept-next (isWellFormedAgent a) (bytesOf a)) (refl, refl) j
+
+  -- and so is the state after it
+  pub journal-state : viewState (b .state) ≡ stateBy (replyOf a) (viewState (a .state)) calls
+  unfolding respondBy
+  journal-state =
+      state-by (Kept (isWellFormedAgent a) (bytesOf a)) (replyOf a) (λ s. refl) (kept-reply (isWellFormedAgent a) (bytesOf a))
+      (kept-next (isWellFormedAgent a) (bytesOf a)) (refl, refl) j
 
 -- ---- A session on an agent that load gives
 
@@ -101,10 +137,11 @@ module _ (bytes : List ℕ) (accepted : refusalOf bytes ≡ 0) (l : Loaded) (loa
   module _ {b : Agent} {carry : Carry} {input output : List ℕ} (fresh : begun carry ≡ some []) (s : Session (l .agent) carry input output b) where
     -- its output depends on the library's bytes and the input's alone, and is what the definition computes
     pub session-output : output ≡ outputOf bytes input
-    unfolding outputOf
+    unfolding outputOf replyTo respondBy call
     session-output =
-        held-computed bytes accepted (loaded-held bytes accepted l loads) (session-journal fresh s)
-        ∙ ap (λ (x : AgentState). answersTo (libraryOf bytes) x (map callOf (lines input))) (loads .state accepted)
+        text-by (Held bytes) (replyTo (libraryOf bytes)) (λ x. refl) (held-call bytes accepted) (held-next bytes accepted)
+        (loaded-held bytes accepted l loads) (session-journal fresh s)
+        ∙ ap (λ (x : AgentState). answersBy (replyTo (libraryOf bytes)) x (map callOf (lines input))) (loads .state accepted)
 
     pub session-printed : output ≡ printedFor bytes input
     unfolding printedFor fileRefusal

@@ -17,19 +17,18 @@ use Rattle.reading.specs.Call.{callOf}
 use Rattle.stream.specs.Lines.{lines}
 use Rattle.agent.specs.Feed.{respondBy}
 
+-- the answers to what lines say, by the reply to each on the state that the one before it left
+unfoldable pub answersBy : (AgentState → Option Call → Reply) → AgentState → List (Option Call) → List ℕ
+answersBy reply s [] = []
+answersBy reply s (said ∷ more) = resultText (reply s said .result) ++ answersBy reply (reply s said .state) more
+
 -- the reply to what a line says
 unfoldable pub replyTo : Library → AgentState → Option Call → Reply
 replyTo library s said = respondBy (isWellFormed library s) library s said
 
--- the answers to what lines say, each on the state that the one before it left
-unfoldable pub answersTo : Library → AgentState → List (Option Call) → List ℕ
-answersTo library s [] = []
-answersTo library s (said ∷ more) =
-    resultText (replyTo library s said .result) ++ answersTo library (replyTo library s said .state) more
-
 -- the answers to the lines of an input, from the loaded state
 unfoldable pub outputOf : List ℕ → List ℕ → List ℕ
-outputOf bytes input = answersTo (libraryOf bytes) (loaded (libraryOf bytes)) (map callOf (lines input))
+outputOf bytes input = answersBy (replyTo (libraryOf bytes)) (loaded (libraryOf bytes)) (map callOf (lines input))
 
 -- the longest file of a library
 abbrev pub mostFile : ℕ
