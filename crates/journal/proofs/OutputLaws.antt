@@ -91,7 +91,8 @@ holds-own a e =
 abbrev Kept : Bool → List ℕ → Agent → Type 0
 Kept formed bytes a = (isWellFormedAgent a ≡ formed) × (bytesOf a ≡ bytes)
 
-module _ (formed : Bool) (bytes : List ℕ) (a : Agent) (kept : Kept formed bytes a) (link : Link) (c : Calls a (link .call) (link .given)) where
+module _ (formed : Bool) (bytes : List ℕ) (a : Agent) (kept : Kept formed bytes a) (link : Link)
+    (c : Calls a (link .call) (link .given)) where
   kept-reply : viewReplied (link .given) ≡ respondBy formed (libraryOf bytes) (viewState (a .state)) (some (link .call))
   unfolding respondBy
   kept-reply =

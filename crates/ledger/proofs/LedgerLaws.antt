@@ -157,13 +157,15 @@ copied-agrees {a = a} {table = table} (Chain.then link c rest) (Ledger.then _ an
 
 -- ---- From a loaded agent: the ledger begins with the loaded beliefs
 
-module _ (bytes : List ℕ) (accepted : refusalOf bytes ≡ 0) (l : Loaded) (loads : Loads bytes l) {b : Agent} {links : List Link} (c : Chain (l .agent) links b) where
+module _ (bytes : List ℕ) (accepted : refusalOf bytes ≡ 0) (l : Loaded) (loads : Loads bytes l)
+    {b : Agent} {links : List Link} (c : Chain (l .agent) links b) where
   module _ (table : Beliefs) (begins : Holds (beliefsOf bytes) table) where
     begins-sound : Sound table
     unfolding libraryOf
     begins-sound = record {
       places = begins .places;
-      rules = table-both table (begins .few) (subst⁻¹ (λ (bs : List Literal). areBeliefs bs ≡ true) (begins .means) (acceptable bytes accepted .beliefs));
+      rules = table-both table (begins .few)
+          (subst⁻¹ (λ (bs : List Literal). areBeliefs bs ≡ true) (begins .means) (acceptable bytes accepted .beliefs));
     }
 
     begins-same : Agrees table (l .agent)

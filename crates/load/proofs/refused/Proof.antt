@@ -17,7 +17,8 @@ no-agent-requires c κs = search needs
 returns : tie.Need-returns
 unfolding noAgent
 returns c =
-    let agent = (c .no-agent) .ensures ∙ ap withoutLibrary ((c .before .first-state) .ensures ∙ ap startsWith ((c .before .before .no-beliefs) .ensures)) in
+    let state = (c .before .first-state) .ensures ∙ ap startsWith ((c .before .before .no-beliefs) .ensures) in
+    let agent = (c .no-agent) .ensures ∙ ap withoutLibrary state in
     λ i. record { refusal = (c .before .before .before .args) .refusal; agent = agent i }
 
 pub refused-spec : {M : Type 1} → statement M
