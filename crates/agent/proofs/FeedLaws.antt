@@ -20,7 +20,7 @@ use Rattle.model.proofs.AcceptedLibrary.{acceptable}
 use Rattle.state.specs.declared.State.{State}
 use Rattle.state.specs.View.{viewState, countsFit}
 use Rattle.formed.specs.Formed.{isStateFormed, isFormed}
-use Rattle.printing.specs.LineText.{resultText}
+use Rattle.printing.specs.LineText.{resultText, fits}
 use Rattle.steps.specs.declared.Acted.{Acted}
 use Rattle.load.specs.declared.Agent.{Agent}
 use Rattle.steps.specs.View.{viewActed, plainly}
@@ -95,13 +95,14 @@ module _ (a : Agent) (bytes : List ℕ) where
   -- one line more
   journal-then : (formed : Bool) (t : State) → isWellFormedAgent (inState a t) ≡ formed → (formed ≡ true → bytes ≡ bytesOf a)
       → {calls : List (Option Call)} {text : List ℕ} → Journal a calls text (inState a t) → (call : Option Call) (r : Acted)
-      → Responds bytes formed t call r → Journal a (calls ++ (call ∷ [])) (text ++ resultText (viewResult (r .result))) (inState a (r .state))
+      → Responds bytes formed t call r → fits (viewResult (r .result)) ≡ true
+      → Journal a (calls ++ (call ∷ [])) (text ++ resultText (viewResult (r .result))) (inState a (r .state))
   unfolding respondBy callBy
-  journal-then formed t w own {calls} {text} j none r h =
+  journal-then formed t w own {calls} {text} j none r h fit =
       let put : Journal a (calls ++ (none ∷ [])) (text ++ resultText (viewResult (r .result))) (inState a t)
       = subst⁻¹ (λ (x : Result). Journal a (calls ++ (none ∷ [])) (text ++ resultText x) (inState a t)) (unread-result bytes t formed r h) (unread j) in
       subst⁻¹ (λ (u : State). Journal a (calls ++ (none ∷ [])) (text ++ resultText (viewResult (r .result))) (inState a u)) (unread-state bytes t formed r h) put
-  journal-then formed t w own j (some c) r h =
+  journal-then formed t w own j (some c) r h fit =
       answered j c (record { agent = inState a (r .state); result = r .result }) (record {
         means = h .means ∙ library formed own ∙ ap (λ (b : Bool). callBy b (libraryOf (bytesOf a)) (viewState t) c) (sym w);
         library = refl;
@@ -109,7 +110,7 @@ module _ (a : Agent) (bytes : List ℕ) where
         refused = λ x. let same = h .refused x in λ i. inState a (same i);
         fit = λ x. h .fit (sym w ∙ x);
         count = h .count;
-      })
+      }) fit
     where
       library : (b : Bool) → (b ≡ true → bytes ≡ bytesOf a) → respondBy b (libraryOf bytes) (viewState t) (some c) ≡ callBy b (libraryOf (bytesOf a)) (viewState t) c
       library false own = refl
@@ -129,18 +130,18 @@ module _ (a : Agent) (bytes : List ℕ) where
     runs-formed : isWellFormedAgent a ≡ true → WellFormedState bytes (a .state) → {calls : List (Option Call)} {text : List ℕ} {t : State}
         → Runs bytes true (a .state) calls text t → Journal a calls text (inState a t) × WellFormedState bytes t
     runs-formed e w none-yet = (start, w)
-    runs-formed e w (then {t = t} runs call r h) =
+    runs-formed e w (then {t = t} runs call r h fit) =
         let i = runs-formed e w runs in
-        (journal-then true t (formed-again e t (i .1)) (λ x. own) (i .0) call r h, responds-kept bytes t (i .1) call r h)
+        (journal-then true t (formed-again e t (i .1)) (λ x. own) (i .0) call r h fit, responds-kept bytes t (i .1) call r h)
 
   -- on another every call is refused, and the agent stays as it is
   runs-unformed : isWellFormedAgent a ≡ false → {calls : List (Option Call)} {text : List ℕ} {t : State}
       → Runs bytes false (a .state) calls text t → Journal a calls text (inState a t) × (t ≡ a .state)
   runs-unformed e none-yet = (start, refl)
-  runs-unformed e (then {t = t} runs call r h) =
+  runs-unformed e (then {t = t} runs call r h fit) =
       let i = runs-unformed e runs in
       let w : isWellFormedAgent (inState a t) ≡ false = ap (λ (u : State). isWellFormedAgent (inState a u)) (i .1) ∙ e in
-      (journal-then false t w (λ x. both-ways x refl) (i .0) call r h, unformed-state bytes t call r h ∙ i .1)
+      (journal-then false t w (λ x. both-ways x refl) (i .0) call r h fit, unformed-state bytes t call r h ∙ i .1)
 
   pub runs-journal : (formed : Bool) → formed ≡ isWellFormedAgent a → (formed ≡ true → bytes ≡ bytesOf a)
       → {calls : List (Option Call)} {text : List ℕ} {t : State} → Runs bytes formed (a .state) calls text t → Journal a calls text (inState a t)

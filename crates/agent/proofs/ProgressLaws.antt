@@ -2,14 +2,14 @@
 use Prim.Native.Nat.{ℕ, _+_, _≤_}
 use native.Mathlib.Omega.{arith}
 use mathlib.Core.Path.{_≡_, refl, ap, sym, subst⁻¹, _∙_}
-use mathlib.Core.Bool.{Bool}
+use mathlib.Core.Bool.{Bool, true}
 use mathlib.Core.Option.{Option, some}
 use mathlib.Core.List.{List, [], _∷_, _++_, append-assoc}
 use lib.ListN.{length, drop, drop-of-length-le}
 use lib.Seq.{take-length}
 use Rattle.model.specs.State.{Call, viewResult}
 use Rattle.state.specs.declared.State.{State}
-use Rattle.printing.specs.LineText.{resultText, mostLine}
+use Rattle.printing.specs.LineText.{resultText, mostLine, fits}
 use Rattle.printing.specs.Writing.{Wrote}
 use Rattle.printing.proofs.WritingLaws.{nothing, then as write-then}
 use Rattle.reading.specs.declared.Spoken.{Spoken}
@@ -30,10 +30,10 @@ module _ (bytes : List ℕ) (formed : Bool) (s : State) (carry : Carry) (chunk b
   module _ {after : List ℕ} {t : State} {held : Carry} {read wrote : ℕ} (p : Progress bytes formed s carry chunk before after t held read wrote) where
     -- a line ends: it is run, and its result printed where there is room for the longest
     pub progress-line : wrote + mostLine ≤ length before → (call : Spoken) (behind : ℕ) → shown (Line call behind) ≡ nextLine chunk read (begun held)
-        → (r : Acted) → Responds bytes formed t (meaning call) r
+        → (r : Acted) → Responds bytes formed t (meaning call) r → fits (viewResult (r .result)) ≡ true
         → {later : List ℕ} {next : ℕ} → Wrote mostLine after later wrote next (resultText (viewResult (r .result)))
         → (fresh : Carry) → begun fresh ≡ some [] → Progress bytes formed s carry chunk before later (r .state) fresh behind next
-    progress-line room call behind told r h w fresh new =
+    progress-line room call behind told r h fit w fresh new =
         let both = write-then (p .written) w in
         record {
           calls = p .calls ++ (meaning call ∷ []);
@@ -42,7 +42,7 @@ module _ (bytes : List ℕ) (formed : Bool) (s : State) (carry : Carry) (chunk b
               ∙ ap (λ (l : List (Option Call)). p .calls ++ l)
               (line-ends chunk read held call behind rest told ∙ ap (λ (o : Option (List ℕ)). meaning call ∷ callsFrom o (drop behind chunk ++ rest)) (sym new))
               ∙ sym (append-assoc (p .calls) (meaning call ∷ []) (callsFrom (begun fresh) (drop behind chunk ++ rest)));
-          runs = then (p .runs) (meaning call) r h;
+          runs = then (p .runs) (meaning call) r h fit;
           written = record { bytes = both .bytes; past = both .past; within = omega arith };
           roomy = roomy (p .text) (viewResult (r .result)) (omega (arith, p .written .past, room));
           so-far = new ∙ sym (line-after chunk read held call behind told (begun carry));

@@ -15,7 +15,7 @@ use Rattle.model.specs.State.{mostChanges, AgentState, Call, Result, Reply, vie
 use Rattle.model.specs.Calls.{isRefusal, callBy}
 use Rattle.state.specs.declared.State.{State}
 use Rattle.state.specs.View.{viewState, countsFit}
-use Rattle.printing.specs.LineText.{resultText, mostLine}
+use Rattle.printing.specs.LineText.{resultText, mostLine, fits}
 use Rattle.printing.specs.Writing.{Wrote}
 use Rattle.stream.specs.declared.Carry.{Carry}
 use Rattle.stream.specs.Carried.{begun}
@@ -62,7 +62,7 @@ pub record Responds (bytes : List ℕ) (formed : Bool) (s : State) (call : Optio
 pub data Runs (bytes : List ℕ) (formed : Bool) (s : State) : List (Option Call) → List ℕ → State → Type 0 where
   none-yet : Runs bytes formed s [] [] s
   then : {calls : List (Option Call)} {text : List ℕ} {t : State} → Runs bytes formed s calls text t
-      → (call : Option Call) (r : Acted) → Responds bytes formed t call r
+      → (call : Option Call) (r : Acted) → Responds bytes formed t call r → fits (viewResult (r .result)) ≡ true
       → Runs bytes formed s (calls ++ (call ∷ [])) (text ++ resultText (viewResult (r .result))) (r .state)
 
 -- ---- An agent
@@ -77,9 +77,9 @@ pub data Journal (a : Agent) : List (Option Call) → List ℕ → Agent → Typ
   -- a line that cannot be read changes nothing
   unread : {calls : List (Option Call)} {text : List ℕ} {b : Agent} → Journal a calls text b
       → Journal a (calls ++ (none ∷ [])) (text ++ resultText unreadable) b
-  -- another is a call
+  -- another is a call; no other result has the text of its result
   answered : {calls : List (Option Call)} {text : List ℕ} {b : Agent} → Journal a calls text b
-      → (c : Call) (r : Replied) → Calls b c r
+      → (c : Call) (r : Replied) → Calls b c r → fits (viewResult (r .result)) ≡ true
       → Journal a (calls ++ (some c ∷ [])) (text ++ resultText (viewResult (r .result))) (r .agent)
 
 -- ---- A chunk

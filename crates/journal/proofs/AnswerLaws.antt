@@ -2,18 +2,19 @@
 -- So demand 3 holds of what a session prints.
 use Prim.Native.Nat.{ℕ, _+_}
 use mathlib.Core.Path.{_≡_, refl, ap, sym, subst, _∙_}
+use mathlib.Core.Bool.{true, not}
 use mathlib.Core.Option.{Option, none, some}
 use mathlib.Core.List.{List, [], _∷_, _++_, map, map-append, append-nil, append-assoc}
 use native.Mathlib.Omega.{arith}
 use lib.Dec.{eqb}
 use lib.ListN.{length, length-map}
-use Rattle.lists.specs.Counts.{bit, count, each}
+use Rattle.lists.specs.Counts.{bit, count, each, Every}
 use Rattle.lists.proofs.CountLaws.{total-append}
 use Rattle.lists.proofs.TestCounts.{any-none}
 use Rattle.accepted.specs.Refusal.{refusalOf}
 use Rattle.model.specs.State.{Call, Result, viewResult}
 use Rattle.model.specs.Lines.{lineOf}
-use Rattle.printing.specs.LineText.{newline, resultText, IsLine}
+use Rattle.printing.specs.LineText.{newline, resultText, IsLine, fits}
 use Rattle.printing.proofs.LineLaws.{one-newline}
 use Rattle.reading.specs.Call.{callOf}
 use Rattle.stream.specs.declared.Carry.{Carry}
@@ -29,7 +30,7 @@ use Rattle.agent.specs.Chain as Chain
 use Rattle.agent.specs.Feed.{unreadable, Journal, start, unread, answered}
 use Rattle.agent.proofs.ChainLaws as ChainLaws
 use Rattle.journal.specs.Session.{Session}
-use Rattle.journal.specs.Answers.{callIn, textOf, linksOf, Answers, Accounted}
+use Rattle.journal.specs.Answers.{callIn, textOf, fitsAnswer, linksOf, Answers, Accounted}
 use Rattle.journal.proofs.SessionLaws.{session-journal}
 
 -- ---- One line more
@@ -43,6 +44,14 @@ texts-join : (xs : List (Option Link)) (answer : Option Link) → each textOf (x
 texts-join [] answer = append-nil (textOf answer)
 texts-join (x ∷ xs) answer = ap (λ text. textOf x ++ text) (texts-join xs answer) ∙ sym (append-assoc (textOf x) (each textOf xs) (textOf answer))
 
+-- one answer more that no other result has the text of
+fits-join : (xs : List (Option Link)) (answer : Option Link) → Every fitsAnswer xs → fitsAnswer answer ≡ true
+    → Every fitsAnswer (xs ++ (answer ∷ []))
+fits-join xs answer all one =
+    let joined = total-append (λ x. bit (not (fitsAnswer x))) xs (answer ∷ []) in
+    let last = ap (λ b. bit (not b)) one in
+    omega (arith, joined, all, last)
+
 chain-then : {a b : Agent} {links : List Link} → Chain a links b → (link : Link) → Calls b (link .call) (link .given)
     → Chain a (links ++ (link ∷ [])) (link .given .agent)
 chain-then Chain.start link h = Chain.then link h Chain.start
@@ -55,15 +64,18 @@ module _ {a b : Agent} {calls : List (Option Call)} {text : List ℕ} (s : Answe
     answers = s .answers ++ (none ∷ []);
     lines = map-append callIn (s .answers) (none ∷ []) ∙ ap (λ cs. cs ++ (none ∷ [])) (s .lines);
     printed = texts-join (s .answers) none ∙ ap (λ t. t ++ resultText unreadable) (s .printed);
+    fit = fits-join (s .answers) none (s .fit) refl;
     chain = subst (λ links. Chain a links b) (sym (links-join (s .answers) (none ∷ []) ∙ append-nil (linksOf (s .answers)))) (s .chain);
   }
 
   -- a call
-  answers-call : (c : Call) (r : Replied) → Calls b c r → Answers a (calls ++ (some c ∷ [])) (text ++ resultText (viewResult (r .result))) (r .agent)
-  answers-call c r h = record {
+  answers-call : (c : Call) (r : Replied) → Calls b c r → fits (viewResult (r .result)) ≡ true
+      → Answers a (calls ++ (some c ∷ [])) (text ++ resultText (viewResult (r .result))) (r .agent)
+  answers-call c r h fit = record {
     answers = s .answers ++ (some link ∷ []);
     lines = map-append callIn (s .answers) (some link ∷ []) ∙ ap (λ cs. cs ++ (some c ∷ [])) (s .lines);
     printed = texts-join (s .answers) (some link) ∙ ap (λ t. t ++ resultText (viewResult (r .result))) (s .printed);
+    fit = fits-join (s .answers) (some link) (s .fit) fit;
     chain = subst (λ links. Chain a links (r .agent)) (sym (links-join (s .answers) (some link ∷ []))) (chain-then (s .chain) link h);
   }
     where
@@ -75,9 +87,9 @@ module _ {a b : Agent} {calls : List (Option Call)} {text : List ℕ} (s : Answe
 -- its calls, with what they gave, form a chain from the agent before it to the agent after it; its text is theirs,
 -- with the text for each line that cannot be read in that line's place
 pub journal-chain : {a b : Agent} {calls : List (Option Call)} {text : List ℕ} → Journal a calls text b → Answers a calls text b
-journal-chain start = record { answers = []; lines = refl; printed = refl; chain = Chain.start }
+journal-chain start = record { answers = []; lines = refl; printed = refl; fit = refl; chain = Chain.start }
 journal-chain (unread j) = answers-unread (journal-chain j)
-journal-chain (answered j c r h) = answers-call (journal-chain j) c r h
+journal-chain (answered j c r h fit) = answers-call (journal-chain j) c r h fit
 
 -- ---- One line out for each
 

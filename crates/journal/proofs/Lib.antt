@@ -1,5 +1,6 @@
 pub mod SessionLaws
 pub mod AnswerLaws
+pub mod AccountLaws
 pub mod PieceLaws
 pub mod OutputLaws
 pub mod OneAnswer

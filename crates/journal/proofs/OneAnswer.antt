@@ -145,7 +145,7 @@ answers a calls = answersBy (replyOf a) (viewState (a .state)) calls
 library-kept : {a b : Agent} {calls : List (Option Call)} {text : List ℕ} → Journal a calls text b → (b .library ≡ a .library) × (b .length ≡ a .length)
 library-kept start = (refl, refl)
 library-kept (unread j) = library-kept j
-library-kept (answered j c r h) = let k = library-kept j in (h .library ∙ k .0, h .length ∙ k .1)
+library-kept (answered j c r h fit) = let k = library-kept j in (h .library ∙ k .0, h .length ∙ k .1)
 
 -- ---- Two answers
 

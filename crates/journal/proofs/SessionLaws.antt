@@ -44,10 +44,10 @@ journal-join {a} {b} {c} {calls} {more} {text} {further} j start =
 journal-join {a} {b} {c} {calls} {more} {text} {further} j (unread {calls = xs} {text = t} k) =
     subst (λ ys. Journal a ys (text ++ (t ++ resultText unreadable)) c) (append-assoc calls xs (none ∷ []))
     (subst (λ l. Journal a ((calls ++ xs) ++ (none ∷ [])) l c) (append-assoc text t (resultText unreadable)) (unread (journal-join j k)))
-journal-join {a} {b} {c} {calls} {more} {text} {further} j (answered {calls = xs} {text = t} k call r h) =
+journal-join {a} {b} {c} {calls} {more} {text} {further} j (answered {calls = xs} {text = t} k call r h fit) =
     let line = resultText (viewResult (r .result)) in
     subst (λ ys. Journal a ys (text ++ (t ++ line)) c) (append-assoc calls xs (some call ∷ []))
-    (subst (λ l. Journal a ((calls ++ xs) ++ (some call ∷ [])) l c) (append-assoc text t line) (answered (journal-join j k) call r h))
+    (subst (λ l. Journal a ((calls ++ xs) ++ (some call ∷ [])) l c) (append-assoc text t line) (answered (journal-join j k) call r h fit))
 
 -- ---- The input's end
 

@@ -1,6 +1,7 @@
 -- The lines of an input with their answers (document 01, "One line out for each"): those that are calls form a chain of contracts.
 use Prim.Native.Nat.{ℕ}
 use mathlib.Core.Path.{_≡_}
+use mathlib.Core.Bool.{Bool, true}
 use mathlib.Core.Option.{Option, none, some}
 use mathlib.Core.List.{List, [], _∷_, map}
 use Rattle.lists.specs.Counts.{each, Every}
@@ -9,7 +10,7 @@ use Rattle.model.specs.State.{Call, viewResult}
 use Rattle.model.specs.Promises.{isNotTen}
 use Rattle.model.specs.Demand3.{Demand3}
 use Rattle.state.specs.View.{viewState}
-use Rattle.printing.specs.LineText.{resultText}
+use Rattle.printing.specs.LineText.{resultText, fits}
 use Rattle.reading.specs.Call.{callOf}
 use Rattle.stream.specs.Lines.{lines}
 use Rattle.load.specs.declared.Agent.{Agent}
@@ -26,6 +27,11 @@ abbrev pub textOf : Option Link → List ℕ
 textOf none = resultText unreadable
 textOf (some link) = resultText (viewResult (link .given .result))
 
+-- no other result has its text
+abbrev pub fitsAnswer : Option Link → Bool
+fitsAnswer none = true
+fitsAnswer (some link) = fits (viewResult (link .given .result))
+
 -- the calls among them
 abbrev pub linksOf : List (Option Link) → List Link
 linksOf [] = []
@@ -39,6 +45,7 @@ pub record Answers (a : Agent) (calls : List (Option Call)) (text : List ℕ) (b
   pub lines : map callIn answers ≡ calls
   -- the text is theirs, and nothing else
   pub printed : each textOf answers ≡ text
+  pub fit : Every fitsAnswer answers
   pub chain : Chain a (linksOf answers) b
 
 -- the output for an input on an agent with a library: it is the answers to the input's lines, demand 3 holds of them, and none is 10

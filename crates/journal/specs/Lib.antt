@@ -1,5 +1,6 @@
 pub mod Session
 pub mod Answers
+pub mod Account
 pub mod Output
 pub mod OneAnswer
 pub mod Cases

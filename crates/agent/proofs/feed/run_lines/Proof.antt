@@ -151,13 +151,14 @@ loop-again c =
     ((c .before .before .before .before .before .stacks-after) .ensures) ((c .before .before .before .before .stacked-after) .ensures) ((c .before .before .before .taken-after) .ensures) ((c .before .before .made-after) .ensures) _ refl in
     let room : l .wrote + mostLine ≤ length (l .out) = omega (arith, (c .before .before .before .before .before .before .before .before .before .before .before .before .before .before .before .before .before .before .before .before .before .before .before .before .before .if1) .left, l .inv .1) in
     let w = rw ((c .before .before .before .before .before .before .before .before .before .before .before .before .before .before .result-of) .ensures) at ((c .before .before .before .before .before .before .before .before .before .before .before .before .print-result) .ensures .line room) in
+    let fit = rw ((c .before .before .before .before .before .before .before .before .before .before .before .before .before .before .result-of) .ensures) at ((c .before .before .before .before .before .before .before .before .before .before .before .before .print-result) .ensures .fit room) in
     let kept = (c .before .before .before .before .before .before .before .before .before .before .before .before .print-result) .kept .0 in (
       moves .1,
       written-within (l .wrote) (w .within) room kept,
       kept ∙ l .inv .2,
       subst⁻¹ (Trusted _ _) after (trusted-next _ _ _ (l .inv .3) _ (applied (l .state) t) ((c .before .before .before .before .before .before .before .before .before .before .before .before .before .before .before .act) .ensures)),
       progress-as after
-          (progress-line _ _ _ _ _ _ (l .inv .4) (omega (arith, room, l .inv .2)) (g .0 .0) (g .0 .1 .0) told (applied (l .state) t) ((c .before .before .before .before .before .before .before .before .before .before .before .before .before .before .before .act) .ensures) w ((c .before .before .before .before .before .before .before .before .before .before .before .before .before .before .before .before .before .before .before .before .no-line) .result) ((c .before .before .before .before .before .before .before .before .before .before .before .before .before .before .before .before .before .before .before .before .no-line) .ensures)),
+          (progress-line _ _ _ _ _ _ (l .inv .4) (omega (arith, room, l .inv .2)) (g .0 .0) (g .0 .1 .0) told (applied (l .state) t) ((c .before .before .before .before .before .before .before .before .before .before .before .before .before .before .before .act) .ensures) fit w ((c .before .before .before .before .before .before .before .before .before .before .before .before .before .before .before .before .before .before .before .before .no-line) .result) ((c .before .before .before .before .before .before .before .before .before .before .before .before .before .before .before .before .before .before .before .before .no-line) .ensures)),
       inr ((c .before .before .before .before .before .before .before .before .before .before .before .before .before .before .before .before .before .before .before .before .no-line) .ensures),
     )
 
@@ -182,12 +183,13 @@ loop-again-2 c =
     let moves = line-moves _ (l .read) (l .held) (g .0 .0) (g .0 .1 .0) told in
     let h = subst (Looked _ (l .state) _) ((c .before .before .before .before .before .before .look) .given .1) ((c .before .before .before .before .before .before .before .before .look-at) .ensures) _ (l .inv .3) in
     let w = rw ((c .before .before .before .before .plain-result) .ensures) at ((c .before .before .print-result2) .ensures .line (omega arith)) in
+    let fit = rw ((c .before .before .before .before .plain-result) .ensures) at ((c .before .before .print-result2) .ensures .fit (omega arith)) in
     let kept = (c .before .before .print-result2) .kept .0 in (
       moves .1,
       omega (arith, w .within, kept),
       kept ∙ l .inv .2,
       l .inv .3,
-      progress-line _ _ _ _ _ _ (l .inv .4) (omega (arith, l .inv .2)) (g .0 .0) (g .0 .1 .0) told (plainly (l .state) ((c .before .before .before .before .before .before .look) .given .0 .0)) h w ((c .before .before .before .before .before .before .before .before .before .no-line) .result) ((c .before .before .before .before .before .before .before .before .before .no-line) .ensures),
+      progress-line _ _ _ _ _ _ (l .inv .4) (omega (arith, l .inv .2)) (g .0 .0) (g .0 .1 .0) told (plainly (l .state) ((c .before .before .before .before .before .before .look) .given .0 .0)) h fit w ((c .before .before .before .before .before .before .before .before .before .no-line) .result) ((c .before .before .before .before .before .before .before .before .before .no-line) .ensures),
       inr ((c .before .before .before .before .before .before .before .before .before .no-line) .ensures),
     )
 
