@@ -1,19 +1,13 @@
 #!/usr/bin/env bash
 # Times the agent's public cycle by itself, a million times and idle: on an agent without events, and beside one waiting stack.
 #   bench/calls.sh [RUNS]     prints microseconds a cycle, processor time, for each of RUNS runs (5 unless given)
-# The program is proved and built in a copy of this repository, since the gate need not wait for it. What target/ has is not proved again.
 set -euo pipefail
 cd "$(dirname "$0")/.."
 runs=${1:-5}
 
-copy=$(mktemp -d)
-trap 'rm -rf "$copy"' EXIT
-git ls-files -z crates.txt crates | xargs -0 cp --parents -t "$copy"
-mkdir -p "$copy/target" "$copy/crates/cycles/src" "$copy/crates/cycles/proofs/run"
-for part in rlib stamp; do
-    [ ! -d "target/$part" ] || cp -R "target/$part" "$copy/target/"
-done
-sed -n 's/^canarystand: /cycles: /p' crates.txt >> "$copy/crates.txt"
+# shellcheck source=bench/scratch.sh
+. bench/scratch.sh
+scratch cycles "$(sed -n 's/^canarystand: //p' crates.txt)"
 
 cat > "$copy/crates/cycles/src/main.rt" << 'END'
 // A million cycles by the agent's public call: on an agent without events, or, where there is any input, beside one waiting stack.
@@ -99,17 +93,7 @@ run-spec =
     (tie.spec Inv-loop μ-loop loop-holds cycle-requires add-i loop-less loop-again returns)
 END
 
-(cd "$copy" && rt check cycles) > "$copy/log" 2>&1 || { tail -n 20 "$copy/log"; exit 1; }
-
-# cost NAME INPUT: the processor time of each run on a file
-cost() {
-    local TIMEFORMAT='%U %S'
-    printf '%s:' "$1"
-    for ((run = 0; run < runs; run++)); do
-        { time "$copy/target/bin/cycles" < "$2" > "$copy/out"; } 2>&1 | awk '{ printf " %.2f", $1 + $2 }'
-    done
-    echo
-}
+built cycles
 echo . > "$copy/input"
-cost 'without events' /dev/null
-cost 'beside one waiting stack' "$copy/input"
+cost cycles 'without events' /dev/null "$runs"
+cost cycles 'beside one waiting stack' "$copy/input" "$runs"

@@ -4,7 +4,8 @@
 //! (`tests/differential`) and timed side by side (`bench`).
 //!
 //! A library of bytes becomes a [`library::Library`] of decoded plans; an [`agent::Agent`] made from it takes reports,
-//! cycles and outcomes; a [`journal::Journal`] reads these calls as lines and writes a line for each.
+//! cycles and outcomes; a [`journal::Journal`] reads these calls as lines and writes a line for each. [`endings::Endings`]
+//! counts how the body of a plan may end.
 
 #![forbid(unsafe_code)]
 #![warn(missing_docs)]
@@ -12,6 +13,7 @@
 pub mod agent;
 pub mod answer;
 pub mod belief;
+pub mod endings;
 pub mod journal;
 pub mod library;
 pub mod literal;

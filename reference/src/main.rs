@@ -1,9 +1,12 @@
-//! Not proved: the journal program. The file "library" and standard input in, a line out for each line.
+//! Not proved: the program, on the file "library". Without words behind its name it is the journal: standard input in, a line out
+//! for each line. `endings PLAN N` tells how many lists of N answers end the body of a plan: succeeded, failed.
 
 use reference::agent::Agent;
+use reference::endings::Endings;
 use reference::journal::{Journal, write_line};
 use reference::library::Library;
 use reference::refusal::Refusal;
+use std::ffi::OsString;
 use std::fs::File;
 use std::io::{self, ErrorKind, Read, Write};
 use std::process::ExitCode;
@@ -11,9 +14,26 @@ use std::process::ExitCode;
 /// The most bytes that a library's file may have.
 const LARGEST_FILE: u64 = 65_535;
 const PIECE: usize = 1 << 16;
+const USAGE: &str = "usage: reference [endings PLAN N]";
+const STATUS_OF_USAGE: u8 = 2;
+
+/// What the words behind the program's name ask for.
+enum Mode {
+    Journal,
+    Endings { plan: u16, length: u16 },
+}
 
 fn main() -> ExitCode {
-    match run() {
+    let words: Vec<OsString> = std::env::args_os().skip(1).collect();
+    let Some(mode) = mode(&words) else {
+        eprintln!("{USAGE}");
+        return ExitCode::from(STATUS_OF_USAGE);
+    };
+    let done = match mode {
+        Mode::Journal => run_journal(),
+        Mode::Endings { plan, length } => write_endings(plan, length),
+    };
+    match done {
         Ok(()) => ExitCode::SUCCESS,
         Err(error) => {
             eprintln!("{error}");
@@ -22,10 +42,34 @@ fn main() -> ExitCode {
     }
 }
 
-fn run() -> io::Result<()> {
+fn mode(words: &[OsString]) -> Option<Mode> {
+    let words: Vec<&str> = words.iter().map(|word| word.to_str()).collect::<Option<_>>()?;
+    match words[..] {
+        [] => Some(Mode::Journal),
+        ["endings", plan, length] => Some(Mode::Endings { plan: number(plan)?, length: number(length)? }),
+        _ => None,
+    }
+}
+
+/// A number in base ten of 1 to 5 digits, at most 65,535.
+fn number(word: &str) -> Option<u16> {
+    let digits = word.len() <= 5 && word.bytes().all(|byte| byte.is_ascii_digit());
+    if digits { word.parse().ok() } else { None }
+}
+
+fn write_endings(plan: u16, length: u16) -> io::Result<()> {
+    let counted = read("library").and_then(|library| Endings::of(&library, plan, length));
+    let mut output = io::stdout().lock();
+    match counted {
+        Ok(endings) => writeln!(output, "{} {}", endings.succeeded, endings.failed),
+        Err(refusal) => writeln!(output, "X {}", refusal.number()),
+    }
+}
+
+fn run_journal() -> io::Result<()> {
     let mut output = io::stdout().lock();
     let mut answers = Vec::with_capacity(PIECE);
-    let library = match load("library") {
+    let library = match read("library").and_then(|library| Library::decode(&library)) {
         Ok(library) => library,
         Err(refusal) => {
             write_line(&mut answers, &Err(refusal));
@@ -51,8 +95,8 @@ fn run() -> io::Result<()> {
     output.flush()
 }
 
-/// The library in a file; one that is missing or cannot be read counts as empty.
-fn load(path: &str) -> Result<Library, Refusal> {
+/// The bytes of a library's file; one that is missing or cannot be read counts as empty.
+fn read(path: &str) -> Result<Vec<u8>, Refusal> {
     let mut bytes = Vec::new();
     let read = File::open(path).and_then(|file| file.take(LARGEST_FILE + 1).read_to_end(&mut bytes));
     if read.is_err() {
@@ -61,5 +105,5 @@ fn load(path: &str) -> Result<Library, Refusal> {
     if bytes.len() as u64 > LARGEST_FILE {
         return Err(Refusal::Packing);
     }
-    Library::decode(&bytes)
+    Ok(bytes)
 }

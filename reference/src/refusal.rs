@@ -23,6 +23,10 @@ pub enum Refusal {
     NotWaiting = 8,
     /// The next event or instance would need a number past 65,535.
     NumbersSpent = 9,
+    /// The library has no plan with this number.
+    NoSuchPlan = 11,
+    /// The list of answers asked about is over 15 long.
+    ListTooLong = 15,
 }
 
 impl Refusal {

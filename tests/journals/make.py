@@ -3,7 +3,7 @@
 
     make.py [FOLDER..]            writes FOLDER/library from FOLDER/library.txt
     make.py --check [FOLDER..]    says whether FOLDER/library is what FOLDER/library.txt builds
-Without folders: every folder of tests/journals and examples that has a library.txt.
+Without folders: every folder of tests/journals, tests/endings and examples that has a library.txt.
 """
 
 import re
@@ -18,6 +18,7 @@ ACTIONS = ["add", "remove"]
 BRANCHES = ["add", "remove", "do", "achieve", "query"]
 SITUATIONS = {"if": "context", "while": "maintenance"}
 LISTS = ["success", "failure"]
+PLACES = ["tests/journals", "tests/endings", "examples"]
 
 
 class Wrong(Exception):
@@ -203,8 +204,7 @@ def build(source):
 
 def folders():
     root = Path(__file__).resolve().parents[2]
-    sources = [*root.glob("tests/journals/*/library.txt"), *root.glob("examples/*/library.txt")]
-    return sorted(source.parent for source in sources)
+    return sorted(source.parent for place in PLACES for source in root.glob(f"{place}/*/library.txt"))
 
 
 def main(words):

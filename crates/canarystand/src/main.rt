@@ -1,7 +1,9 @@
-// The journal program: loads the file "library" of its folder, and answers each line of standard input with a line.
+// The program: the journal of the file "library" of its folder, or what the words behind its name ask for.
 ghost use Rattle.io.specs.Counts.{Counts};
 use agent::feed;
+use command::Mode;
 use libc::ENOENT;
+use libc::STDERR_FILENO;
 use libc::STDIN_FILENO;
 use libc::STDOUT_FILENO;
 use load::Agent;
@@ -18,6 +20,26 @@ struct Session {
     agent: Agent,
     carry: Carry,
     goes_on: bool,
+}
+
+// ---- The words behind the program's name
+
+// How many bytes the longest word of a mode has, and more: a longer one is read as empty, which no mode takes.
+const MOST_WORD: usize = 16;
+
+fn asked_mode() -> Mode {
+    let count = os::arg_count();
+    let mut name = [0u8; MOST_WORD];
+    let mut first = [0u8; MOST_WORD];
+    let mut second = [0u8; MOST_WORD];
+    let a = os::arg(1, &mut name);
+    let b = os::arg(2, &mut first);
+    let c = os::arg(3, &mut second);
+    command::mode_of(count, &name[..a], &first[..b], &second[..c])
+}
+
+fn say_usage() {
+    transfer::write_all(STDERR_FILENO, b"usage: canarystand [endings PLAN N]\n");
 }
 
 // ---- The library
@@ -55,12 +77,17 @@ fn print(bytes: &[u8]) -> bool {
     written
 }
 
-fn print_refusal(number: u16, out: &mut [u8]) {
-    let result = answer::plain_result(Answer::Refused(number));
-    let n = printing::print_result(out, 0, result);
+// Writes the first n bytes.
+fn print_first(n: usize, out: &[u8]) {
     if n <= out.len() {
         print(&out[..n]);
     }
+}
+
+fn print_refusal(number: u16, out: &mut [u8]) {
+    let result = answer::plain_result(Answer::Refused(number));
+    let n = printing::print_result(out, 0, result);
+    print_first(n, out);
 }
 
 // ---- The lines
@@ -138,19 +165,47 @@ fn answer_all(agent: Agent, input: &mut [u8], out: &mut [u8]) {
     }
 }
 
-fn main() {
-    let mut input = io::large_buffer();
-    let mut out = io::large_buffer();
-    let n = read_library(&mut input);
+// ---- The modes
+
+fn answer_journal(input: &mut [u8], out: &mut [u8]) {
+    let n = read_library(input);
     if n == input.len() {
-        print_refusal(TOO_LONG, &mut out);
+        print_refusal(TOO_LONG, out);
         return;
     }
     let loaded = load::load(&input[..n]);
     if loaded.refusal != 0 {
-        print_refusal(loaded.refusal, &mut out);
+        print_refusal(loaded.refusal, out);
         return;
     }
     let agent = loaded.agent;
-    answer_all(agent, &mut input, &mut out);
+    answer_all(agent, input, out);
+}
+
+// After how many lists of answers the plan has just succeeded, and just failed.
+fn answer_endings(plan: u16, length: u16, input: &mut [u8], out: &mut [u8]) {
+    let n = read_library(input);
+    if n == input.len() {
+        print_refusal(TOO_LONG, out);
+        return;
+    }
+    let ended = endings::endings_of(&input[..n], plan as usize, length as usize);
+    if ended.refusal != 0 {
+        print_refusal(ended.refusal, out);
+        return;
+    }
+    let counts = ended.counts;
+    let m = printing::print_pair(out, 0, counts.succeeded, counts.failed);
+    print_first(m, out);
+}
+
+fn main() {
+    let mut input = io::large_buffer();
+    let mut out = io::large_buffer();
+    let mode = asked_mode();
+    match mode {
+        Mode::Journal => answer_journal(&mut input, &mut out),
+        Mode::Endings { plan, length } => answer_endings(plan, length, &mut input, &mut out),
+        Mode::Unknown => say_usage(),
+    }
 }

@@ -80,6 +80,10 @@ lineText line = (letterByte (line .letter) ∷ each fieldText (line .fields)) ++
 abbrev pub resultText : Result → List ℕ
 resultText result = lineText (lineOf result)
 
+-- two numbers on a line of their own
+unfoldable pub pairText : ℕ → ℕ → List ℕ
+pairText first second = decimal first ++ (numberText second ++ (newline ∷ []))
+
 -- a text is one line: no newline but the last byte
 pub record IsLine (text : List ℕ) : Type 0 where
   pub body : List ℕ
@@ -117,6 +121,10 @@ mostChange = 27
 -- the longest line
 abbrev pub mostLine : ℕ
 mostLine = mostFields + mostChange * mostChanges + 1
+
+-- how many bytes the longest line of two numbers has: ten digits each, a space and a newline
+abbrev pub mostPair : ℕ
+mostPair = 22
 
 -- the sign and the predicate take 16 bits
 abbrev pub isHead : Literal → Bool

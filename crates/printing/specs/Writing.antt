@@ -6,7 +6,7 @@ use mathlib.Core.List.{List}
 use lib.ListN.{length}
 use lib.Seq.{sets}
 use Rattle.model.specs.State.{Result}
-use Rattle.printing.specs.LineText.{resultText, mostLine, fits}
+use Rattle.printing.specs.LineText.{resultText, mostLine, fits, pairText, mostPair}
 
 -- the text, of at most `most` bytes, stands from `at` up to `next`, and every other byte is as it was
 pub record Wrote (most : ℕ) (before after : List ℕ) (at next : ℕ) (text : List ℕ) : Type 0 where
@@ -23,3 +23,11 @@ pub record Prints (before after : List ℕ) (at next : ℕ) (result : Result) : 
   -- else nothing is written
   pub unwritten : length before < at + mostLine → after ≡ before
   pub unmoved : length before < at + mostLine → next ≡ at
+
+-- what printing two numbers does to the buffer, and the place past what was written
+pub record PrintsPair (before after : List ℕ) (at next first second : ℕ) : Type 0 where
+  -- where there is room for the longest such line, theirs is written
+  pub line : at + mostPair ≤ length before → Wrote mostPair before after at next (pairText first second)
+  -- else nothing is
+  pub unwritten : length before < at + mostPair → after ≡ before
+  pub unmoved : length before < at + mostPair → next ≡ at

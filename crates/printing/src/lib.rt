@@ -10,7 +10,7 @@ ghost use Rattle.lists.specs.Search.{all};
 ghost use Rattle.model.specs.Lines.{M, number, fieldsOf};
 ghost use Rattle.printing.specs.Decimal.{decimal, lastTwo, lastFour};
 ghost use Rattle.printing.specs.LineText.{space, signByte, changeByte, letterByte, numberText, literalText, fieldText, changeText, answerText, isTry, isHead, fitsField, fitsChange, mostFields, mostChange};
-ghost use Rattle.printing.specs.Writing.{Wrote, Prints};
+ghost use Rattle.printing.specs.Writing.{Wrote, Prints, PrintsPair};
 use belief::Change;
 use literal::Literal;
 use model::Answer;
@@ -26,6 +26,9 @@ const MOST_CHANGE: usize = 27;
 
 // How many bytes the longest line has, with its newline.
 pub const MOST_LINE: usize = MOST_FIELDS + MOST_CHANGE * MOST_CHANGES + 1;
+
+// How many bytes the longest line of two numbers has, with its newline.
+const MOST_PAIR: usize = 22;
 
 // The byte of the digit 0.
 const ZERO: u8 = 48;
@@ -96,22 +99,30 @@ fn put_number(out: &mut [u8], at: usize, lead: u8, n: u16) -> usize
     put_decimal(out, a, n)
 }
 
-// A space and a count, which may have ten digits.
+// A number of up to ten digits.
+fn put_wide(out: &mut [u8], at: usize, n: u32) -> usize
+    requires { ⌜ at + 10 ≤ length (now out) ⌝ }
+    ensures { λ r. ⌜ Wrote 10 (now (out .entry)) (now (out .exit)) at r (decimal n) ⌝ }
+{
+    if n < 10000 {
+        return put_decimal(out, at, n as u16);
+    }
+    if n < 100000000 {
+        let a = put_decimal(out, at, (n / 10000) as u16);
+        return put_four(out, a, (n % 10000) as u16);
+    }
+    let a = put_short(out, at, (n / 100000000) as u16);
+    let b = put_four(out, a, (n / 10000 % 10000) as u16);
+    put_four(out, b, (n % 10000) as u16)
+}
+
+// A space and a count.
 fn put_count(out: &mut [u8], at: usize, n: u32) -> usize
     requires { ⌜ at + 11 ≤ length (now out) ⌝ }
     ensures { λ r. ⌜ Wrote 11 (now (out .entry)) (now (out .exit)) at r (numberText n) ⌝ }
 {
-    if n < 10000 {
-        return put_number(out, at, b' ', n as u16);
-    }
-    if n < 100000000 {
-        let a = put_number(out, at, b' ', (n / 10000) as u16);
-        return put_four(out, a, (n % 10000) as u16);
-    }
     let a = put(out, at, b' ');
-    let b = put_short(out, a, (n / 100000000) as u16);
-    let c = put_four(out, b, (n / 10000 % 10000) as u16);
-    put_four(out, c, (n % 10000) as u16)
+    put_wide(out, a, n)
 }
 
 // ---- Literals and changes
@@ -318,5 +329,21 @@ pub fn print_result(out: &mut [u8], at: usize, r: Answered) -> usize
     let n = size_of(r.count);
     let a = put_answer(out, at, answer);
     let b = put_changes(out, a, changes, n);
+    put(out, b, b'\n')
+}
+
+// Two numbers on a line of their own, from `at` on; where there is no room for the longest such line, nothing.
+pub fn print_pair(out: &mut [u8], at: usize, first: u32, second: u32) -> usize
+    ensures { λ n. ⌜ PrintsPair (now (out .entry)) (now (out .exit)) at n first second ⌝ }
+{
+    let room = out.len();
+    if room < MOST_PAIR {
+        return at;
+    }
+    if room - MOST_PAIR < at {
+        return at;
+    }
+    let a = put_wide(out, at, first);
+    let b = put_count(out, a, second);
     put(out, b, b'\n')
 }

@@ -1,5 +1,6 @@
 pub mod NumberLaws
 pub mod PlaceLaws
+pub mod WordLaws
 pub mod CallLaws
 pub mod LongLines
 pub mod PrintedLaws

@@ -94,7 +94,7 @@ module _ (most value : ℕ) (digits : List ℕ) (e : digitsFrom 0 digits ≡ som
   read-more rest = rw (fields-digits 0 value digits (32 ∷ rest) e, append-nil)
 
   -- another byte: a sixth digit, or none
-  wrong : (b : ℕ) (rest : List ℕ) → (length digits < 5 → isDigit b ≡ false) → number most (digits ++ (b ∷ rest)) ≡ none
+  pub wrong : (b : ℕ) (rest : List ℕ) → (length digits < 5 → isDigit b ≡ false) → number most (digits ++ (b ∷ rest)) ≡ none
   wrong b rest stops =
       by-cases (ltb (length digits) 5)
       (λ h. number-wrong most (digits ++ (b ∷ rest)) (digits-append 0 value digits (b ∷ rest) e ∙ rw (stops (ltb-true _ 5 h))))

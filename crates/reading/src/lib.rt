@@ -2,8 +2,8 @@
 ghost use mathlib.Core.Path.{_≡_};
 ghost use Prim.Native.Nat.{_≤_};
 ghost use lib.ListN.{length};
-ghost use Rattle.reading.specs.Call.{number, headOf, termsOf, reportOf, outcomeOf, callOf};
-ghost use Rattle.reading.specs.Spoken.{meaning};
+ghost use Rattle.reading.specs.Call.{number, largestNumber, headOf, termsOf, reportOf, outcomeOf, callOf};
+ghost use Rattle.reading.specs.Spoken.{meaning, numberIn};
 ghost use Rattle.reading.specs.Places.{left, DigitsAt, Reads};
 use literal::Literal;
 
@@ -25,6 +25,12 @@ pub enum Spoken {
     Cycle,
     Outcome { id: u16, worked: bool },
     Unreadable,
+}
+
+// What a word says: a number, or something else.
+pub enum Word {
+    Number(u16),
+    Other,
 }
 
 // Digits from a place on: the number that they say, and where they stop.
@@ -72,6 +78,24 @@ fn digits_at(s: &[u8], at: usize) -> Digits
         value: value,
         stop: i,
     }
+}
+
+// A word of its own, as a number.
+pub fn read_number(word: &[u8]) -> Word
+    ensures { λ r. ⌜ numberIn r ≡ number largestNumber (now (word .entry)) ⌝ }
+{
+    let digits = digits_at(word, 0);
+    let stop = digits.stop;
+    if stop == 0 {
+        return Word::Other;
+    }
+    if stop < word.len() {
+        return Word::Other;
+    }
+    if LARGEST_NUMBER < digits.value {
+        return Word::Other;
+    }
+    Word::Number(digits.value as u16)
 }
 
 // The field from a place on, as a number of at most so much.

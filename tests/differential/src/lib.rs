@@ -9,6 +9,7 @@ pub mod ledger;
 pub mod lines;
 mod offcuts;
 pub mod plans;
+pub mod programs;
 pub mod random;
 pub mod scenario;
 pub mod unreadable;

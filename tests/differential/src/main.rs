@@ -5,13 +5,11 @@
 
 use differential::coverage::{Coverage, LETTERS, REFUSALS};
 use differential::ledger::{self, parse};
+use differential::programs::{Feed, Program};
 use differential::random::Random;
 use differential::scenario::{self, Scenario};
-use programs::{Feed, Program};
 use std::process::ExitCode;
 use std::time::Instant;
-
-mod programs;
 
 const USAGE: &str = "usage: differential [--seeds N] [--first N] [--long N] [--counts] [--strict] [PROVED [REFERENCE]]
   --seeds N   so many seeds (default 300), each a valid and a damaged library

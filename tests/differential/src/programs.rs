@@ -1,7 +1,7 @@
-//! Running a journal program.
+//! Running a program, on a journal or with words behind its name.
 
-use differential::random::Random;
-use differential::scenario::Scenario;
+use crate::random::Random;
+use crate::scenario::Scenario;
 use std::fs::{self, File};
 use std::io::{self, BufRead, BufReader, Read, Write};
 use std::path::PathBuf;
@@ -47,31 +47,41 @@ impl Program {
         }
     }
 
-    fn prepare(&self, scenario: &Scenario) -> io::Result<()> {
-        let library = self.folder.join("library");
-        match &scenario.library {
-            Some(bytes) => fs::write(library, bytes)?,
-            None => fs::remove_file(library).or_else(|error| match error.kind() {
+    /// Puts the library into the folder, or takes it out.
+    pub fn hold(&self, library: Option<&[u8]>) -> io::Result<()> {
+        let file = self.folder.join("library");
+        match library {
+            Some(bytes) => fs::write(file, bytes),
+            None => fs::remove_file(file).or_else(|error| match error.kind() {
                 io::ErrorKind::NotFound => Ok(()),
                 _ => Err(error),
-            })?,
+            }),
         }
+    }
+
+    /// What the program writes on the library held, with words behind its name and no input.
+    pub fn ask(&self, words: &[&str]) -> Result<Vec<u8>, String> {
+        collect(self.start(words, Stdio::null())?)
+    }
+
+    fn prepare(&self, scenario: &Scenario) -> io::Result<()> {
+        self.hold(scenario.library.as_deref())?;
         fs::write(self.folder.join("input"), &scenario.input)
     }
 
-    fn start(&self, input: Stdio) -> Result<Child, String> {
+    fn start(&self, words: &[&str], input: Stdio) -> Result<Child, String> {
         let mut command = Command::new(&self.path);
-        command.current_dir(&self.folder).stdin(input).stdout(Stdio::piped());
+        command.args(words).current_dir(&self.folder).stdin(input).stdout(Stdio::piped());
         command.spawn().map_err(|error| format!("{}: {error}", self.path.display()))
     }
 
     fn whole(&self) -> Result<Vec<u8>, String> {
         let input = File::open(self.folder.join("input")).map_err(|error| error.to_string())?;
-        collect(self.start(input.into())?)
+        collect(self.start(&[], input.into())?)
     }
 
     fn pieces(&self, input: &[u8], mut random: Random) -> Result<Vec<u8>, String> {
-        let mut child = self.start(Stdio::piped())?;
+        let mut child = self.start(&[], Stdio::piped())?;
         let stdin = child.stdin.take();
         let input = input.to_vec();
         let most = *random.pick(&[3, 50, 5_000]);
@@ -93,7 +103,7 @@ impl Program {
     }
 
     fn dialogue(&self, input: &[u8], mut random: Random) -> Result<Vec<u8>, String> {
-        let mut child = self.start(Stdio::piped())?;
+        let mut child = self.start(&[], Stdio::piped())?;
         let mut stdin = child.stdin.take().ok_or("no standard input")?;
         let stdout = child.stdout.take().ok_or("no standard output")?;
         let (sender, answers) = mpsc::channel();

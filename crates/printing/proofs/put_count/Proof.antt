@@ -1,92 +1,20 @@
--- `printing::put_count` meets its contract: four digits at a time, after a space.
+-- `printing::put_count` meets its contract: a space, then the number.
 use borrow.Author.Needs.{needs}
-use Prim.Native.Nat.{ℕ}
-use mathlib.Core.Path.{ap}
-use mathlib.Core.List.{List, _∷_}
-use lib.Dec.{lit≤}
-use Rattle.printing.specs.LineText.{space}
-use Rattle.printing.proofs.DecimalLaws.{from-myriads, many-digits}
-use Rattle.printing.proofs.WritingLaws.{then, widen, written}
+use Rattle.printing.proofs.WritingLaws.{then}
 use Rattle.printing.proofs.put_count.Statement.{statement}
 use Rattle.printing.proofs.put_count.Tie as tie
 
-cast-put-number : tie.Need-cast-put-number
-cast-put-number c = search needs
+put-requires : tie.Need-put-requires
+put-requires c κs = search needs
 
-put-number-requires : tie.Need-put-number-requires
-put-number-requires c κs = search needs
+put-wide-requires : tie.Need-put-wide-requires
+put-wide-requires c κs = search needs
 
 same-length : tie.Need-same-length
 same-length c = search needs
 
 returns : tie.Need-returns
-returns c = search needs
-
-cast-put-number-2 : tie.Need-cast-put-number-2
-cast-put-number-2 c = search needs
-
-put-number-requires-2 : tie.Need-put-number-requires-2
-put-number-requires-2 c κs = search needs
-
-cast-put-four : tie.Need-cast-put-four
-cast-put-four c = search needs
-
-put-four-requires : tie.Need-put-four-requires
-put-four-requires c κs = search needs
-
-same-length-2 : tie.Need-same-length-2
-same-length-2 c = search needs
-
-returns-2 : tie.Need-returns-2
-returns-2 c = written (ap (λ (l : List ℕ). space ∷ l) (from-myriads ((c .before .before .before .before .before .before .before .before .before .before .before .args) .n) ((c .before .before .before .before .before .before .before .before .before .if1) .left))) (widen (lit≤ tt) (then ((c .before .before .before .before .before .before .put-number2) .ensures) ((c .before .before .put-four) .ensures)))
-
-put-requires : tie.Need-put-requires
-put-requires c κs = search needs
-
-cast-put-short : tie.Need-cast-put-short
-cast-put-short c = search needs
-
-put-short-requires : tie.Need-put-short-requires
-put-short-requires c κs = search needs
-
-cast-put-four-2 : tie.Need-cast-put-four-2
-cast-put-four-2 c = search needs
-
-put-four-requires-2 : tie.Need-put-four-requires-2
-put-four-requires-2 c κs = search needs
-
-cast-put-four-3 : tie.Need-cast-put-four-3
-cast-put-four-3 c = search needs
-
-put-four-requires-3 : tie.Need-put-four-requires-3
-put-four-requires-3 c κs = search needs
-
-same-length-3 : tie.Need-same-length-3
-same-length-3 c = search needs
-
-returns-3 : tie.Need-returns-3
-returns-3 c = written (ap (λ (l : List ℕ). space ∷ l) (many-digits ((c .before .before .before .before .before .before .before .before .before .before .before .before .before .before .before .before .before .before .before .args) .n) ((c .before .before .before .before .before .before .before .before .before .before .before .before .before .before .before .before .if2) .left))) (then (then (then ((c .before .before .before .before .before .before .before .before .before .before .before .before .before .before .put) .ensures) ((c .before .before .before .before .before .before .before .before .before .before .put-short) .ensures)) ((c .before .before .before .before .before .before .put-four2) .ensures)) ((c .before .before .put-four3) .ensures))
+returns c = then ((c .before .before .before .before .before .before .put) .ensures) ((c .before .before .put-wide) .ensures)
 
 pub put-count-spec : {M : Type 1} → statement M
-put-count-spec =
-    tie.close
-    (tie.spec
-    cast-put-number
-    put-number-requires
-    same-length
-    returns
-    cast-put-number-2
-    put-number-requires-2
-    cast-put-four
-    put-four-requires
-    same-length-2
-    returns-2
-    put-requires
-    cast-put-short
-    put-short-requires
-    cast-put-four-2
-    put-four-requires-2
-    cast-put-four-3
-    put-four-requires-3
-    same-length-3
-    returns-3)
+put-count-spec = tie.close (tie.spec put-requires put-wide-requires same-length returns)

@@ -1,0 +1,57 @@
+// The words behind the program's name, as what it is asked to do.
+ghost use mathlib.Core.Path.{_≡_};
+ghost use Rattle.command.specs.Mode.{same, wordsOf, endingsMode, modeOf};
+use reading::Word;
+
+// The journal; how a plan may end after lists of so many answers; or words that ask for nothing.
+pub enum Mode {
+    Journal,
+    Endings { plan: u16, length: u16 },
+    Unknown,
+}
+
+// Whether a word is this name.
+fn is_name(word: &[u8], name: &[u8]) -> bool
+    ensures { λ r. ⌜ r ≡ same (now (word .entry)) (now (name .entry)) ⌝ }
+{
+    if word.len() != name.len() {
+        return false;
+    }
+    let mut i: usize = 0;
+    while i < word.len() {
+        if word[i] != name[i] {
+            return false;
+        }
+        i += 1;
+    }
+    true
+}
+
+// The words behind `endings`: a plan and a length.
+fn endings_mode(plan: &[u8], length: &[u8]) -> Mode
+    ensures { λ r. ⌜ r ≡ endingsMode (now (plan .entry)) (now (length .entry)) ⌝ }
+{
+    let Word::Number(p) = reading::read_number(plan) else {
+        return Mode::Unknown;
+    };
+    let Word::Number(n) = reading::read_number(length) else {
+        return Mode::Unknown;
+    };
+    Mode::Endings { plan: p, length: n }
+}
+
+// By how many words there are, the program's own name among them, and the first three behind it.
+pub fn mode_of(count: usize, name: &[u8], first: &[u8], second: &[u8]) -> Mode
+    ensures { λ r. ⌜ r ≡ modeOf (wordsOf count (now (name .entry)) (now (first .entry)) (now (second .entry))) ⌝ }
+{
+    if count <= 1 {
+        return Mode::Journal;
+    }
+    if count != 4 {
+        return Mode::Unknown;
+    }
+    if !is_name(name, b"endings") {
+        return Mode::Unknown;
+    }
+    endings_mode(first, second)
+}

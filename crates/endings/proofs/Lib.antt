@@ -1,0 +1,4 @@
+pub mod WaysLaws
+pub mod EndingsLaws
+pub mod SumLaws
+pub mod Cases

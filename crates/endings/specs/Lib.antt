@@ -1,0 +1,4 @@
+pub mod Answers
+pub mod Endings
+pub mod Sums
+pub mod Cases
