@@ -33,12 +33,13 @@ run() {
     cmp -s "$2/expected" "$folder/output" || { differs "${2##*/}: $1" "$2/expected" "$folder/output"; return 1; }
 }
 
-# shown PAGE CASE: the page's table of lines in and out is the case's journal.
+# shown PAGE CASE..: the page's tables of lines in and out are the cases' journals, in this order.
 shown() {
     # shellcheck disable=SC2016 # backquotes of Markdown
-    local lines='s/^| `\([CPO][^`]*\)` | `.*/\1/p' answers='s/^| `[CPO][^`]*` | `\([^`]*\)` .*/\1/p'
-    if ! cmp -s <(sed -n "$lines" "$1") "$2/input" || ! cmp -s <(sed -n "$answers" "$1") "$2/expected"; then
-        echo "$1: its table is not the journal of $2"
+    local page=$1 lines='s/^| `\([CPO][^`]*\)` | `.*/\1/p' answers='s/^| `[CPO][^`]*` | `\([^`]*\)` .*/\1/p'
+    shift
+    if ! cmp -s <(sed -n "$lines" "$page") <(cat "${@/%//input}") || ! cmp -s <(sed -n "$answers" "$page") <(cat "${@/%//expected}"); then
+        echo "$page: its tables are not the journals of $*"
         return 1
     fi
 }
@@ -53,7 +54,7 @@ for case in tests/journals/*/ examples/*/; do
 done
 
 shown README.md tests/journals/document-01
-shown examples/README.md examples/cutting-cell
+shown examples/README.md examples/cutting-cell examples/offcut
 
 sources="python3 is missing: libraries not compared with their text"
 if command -v python3 > /dev/null; then

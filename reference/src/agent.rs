@@ -259,9 +259,12 @@ impl Agent {
 
 /// Tries a branch; `high` says that its stack has no room for another instance.
 fn attempt(branch: &Branch, beliefs: &mut Beliefs, bindings: &mut Bindings, high: bool) -> Attempt {
-    if branch.kind == BranchKind::Query
-        && let Some(bound) = beliefs.first_match(&branch.literal, bindings)
-    {
+    let bound = match branch.kind {
+        BranchKind::Query => beliefs.first_match(&branch.literal, bindings),
+        BranchKind::Divide(division) => division.worked_out(bindings),
+        _ => None,
+    };
+    if let Some(bound) = bound {
         *bindings = bound;
         return Attempt::Stepped(vec![]);
     }
@@ -274,6 +277,7 @@ fn attempt(branch: &Branch, beliefs: &mut Beliefs, bindings: &mut Bindings, high
         BranchKind::External => Attempt::Done(fact),
         BranchKind::Achieve if beliefs.holds(&fact) => Attempt::Stepped(vec![]),
         BranchKind::Query if beliefs.holds(&fact.opposite()) => Attempt::Missed,
+        BranchKind::Divide(_) => Attempt::Missed,
         _ if high => Attempt::Missed,
         BranchKind::Achieve => Attempt::Posted(EventKind::Achieve, fact),
         BranchKind::Query => Attempt::Posted(EventKind::Query, fact),

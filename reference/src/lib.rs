@@ -13,6 +13,7 @@
 pub mod agent;
 pub mod answer;
 pub mod belief;
+pub mod division;
 pub mod endings;
 pub mod journal;
 pub mod library;

@@ -1,6 +1,7 @@
 //! A library's bytes decoded into beliefs and plans (document 01, "Library").
 
 use crate::belief::{MOST_BELIEFS, Situation};
+use crate::division::Division;
 use crate::literal::{Bindings, Fact, Literal};
 use crate::refusal::Refusal;
 
@@ -40,6 +41,8 @@ pub enum BranchKind {
     Achieve,
     /// Asks the beliefs, or posts a goal to find out.
     Query,
+    /// Divides a length.
+    Divide(Division),
 }
 
 /// One way on from a state.
@@ -47,7 +50,7 @@ pub enum BranchKind {
 pub struct Branch {
     /// What it does.
     pub kind: BranchKind,
-    /// With which literal.
+    /// With which literal; a division's has both lengths.
     pub literal: Literal,
     /// The state that it leads to.
     pub next: usize,
@@ -242,16 +245,19 @@ impl Reader<'_> {
     }
 
     fn branch(&mut self) -> Option<Branch> {
-        let kind = match self.number()? {
+        let kind = self.number()?;
+        let literal = self.literal()?;
+        let kind = match kind {
             0 => BranchKind::Add,
             1 => BranchKind::Remove,
+            2 if literal.symbol.is_negative() => return None,
             2 => BranchKind::External,
             3 => BranchKind::Achieve,
             4 => BranchKind::Query,
+            5 => BranchKind::Divide(Division::of(&literal)?),
             _ => return None,
         };
-        let branch = Branch { kind, literal: self.literal()?, next: self.number()?.into() };
-        (kind != BranchKind::External || !branch.literal.symbol.is_negative()).then_some(branch)
+        Some(Branch { kind, literal, next: self.number()?.into() })
     }
 }
 

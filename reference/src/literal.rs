@@ -81,7 +81,18 @@ impl Bindings {
         self.get(variable).map_or(u32::MAX, u32::from)
     }
 
-    fn value(&self, term: Term) -> Option<u16> {
+    /// The bindings with a variable bound to a constant; none if it is bound already.
+    pub(crate) fn with(mut self, variable: u8, constant: u16) -> Option<Bindings> {
+        let place = &mut self.0[usize::from(variable)];
+        if place.is_some() {
+            return None;
+        }
+        *place = Some(constant);
+        Some(self)
+    }
+
+    /// The constant that a term stands for.
+    pub fn value(&self, term: Term) -> Option<u16> {
         match term {
             Term::Constant(constant) => Some(constant),
             Term::Variable(variable) => self.get(variable),

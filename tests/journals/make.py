@@ -15,7 +15,8 @@ NEGATIVE = 32_768
 MARK = 16  # for each variable up to the one whose least value decides, added to a trigger kind
 TRIGGERS = ["added", "removed", "told", "achieve", "query"]
 ACTIONS = ["add", "remove"]
-BRANCHES = ["add", "remove", "do", "achieve", "query"]
+BRANCHES = ["add", "remove", "do", "achieve", "query", "divide"]
+VARIABLES = 8
 SITUATIONS = {"if": "context", "while": "maintenance"}
 LISTS = ["success", "failure"]
 PLACES = ["tests/journals", "tests/endings", "examples"]
@@ -64,6 +65,14 @@ def variable(word):
 
 def term(word):
     return FIRST_VARIABLE + variable(word) if word.startswith("V") else constant(word)
+
+
+def division(words):
+    """LENGTH by PANEL into Vq rest Vr, as a literal: q + 8 r in place of its predicate."""
+    if len(words) != 7 or words[1::2] != ["by", "into", "rest"]:
+        raise Wrong(f"{' '.join(words)!r} is no division")
+    panels, offcut = variable(words[4]), variable(words[6])
+    return numbers(panels + VARIABLES * offcut, term(words[0]), term(words[2]), 0)
 
 
 # ---- The text
@@ -136,7 +145,8 @@ class Text:
             plan.states.append([])
         elif plan.states and words[-2:-1] == ["then"]:
             kind = number(index(head, BRANCHES))
-            plan.states[-1].append(kind + self.literal(words[:-2]) + number(constant(words[-1])))
+            literal = division(words[:-2]) if head == "divide" else self.literal(words[:-2])
+            plan.states[-1].append(kind + literal + number(constant(words[-1])))
         else:
             raise Wrong(f"{head!r} is no part of a plan")
 

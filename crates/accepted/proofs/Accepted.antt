@@ -12,6 +12,7 @@ use Rattle.lists.specs.Search.{all, distinct}
 use Rattle.lists.proofs.BoolLaws.{and-parts, both-ways}
 use Rattle.lists.proofs.AllLaws.{all-at, distinct-at}
 use Rattle.literal.specs.Literal.{negative, isGround, same}
+use Rattle.literal.specs.Divide.{quotientIn, remainderIn, variablePairs}
 use Rattle.literal.proofs.LiteralLaws.{equal-same}
 use Rattle.library.specs.declared.Branch.{Branch}
 use Rattle.library.specs.Plan.{noLiteral, noBranch}
@@ -22,7 +23,7 @@ use Rattle.accepted.specs.Refusal.{contentsFit, packedFrom, isPacked, pl
 use Rattle.library.proofs.FieldLaws.{field-is}
 use Rattle.library.proofs.RowLaws.{length-items, items-at, items-all}
 use Rattle.library.proofs.PartLaws.{length-beliefs}
-use Rattle.accepted.proofs.RuleFacts.{KeepsRules, keeps-rules, branch-ok, kind-in, positive, next-above, next-below}
+use Rattle.accepted.proofs.RuleFacts.{KeepsRules, keeps-rules, branch-ok, kind-in, positive, division, next-above, next-below}
 
 -- ---- Every stage passed
 
@@ -120,7 +121,7 @@ module _ (bytes : List ℕ) (accepted : Accepted bytes) where
     unfolding planFitsAt
     plan-end = eqb-true _ _ (and-parts (planOk (planOf bytes plan)) _ plan-fits .1)
 
-    -- a branch of a state: its kind, its sign, and a next state above its own that exists
+    -- a branch of a state: its kind, its literal, and a next state above its own that exists
     module _ (state i : ℕ) (in-states : state < length (planOf bytes plan .states)) (in-state : i < length (getD (planOf bytes plan .states) state [])) where
       abbrev pub thisBranch : Branch
       thisBranch = getD (getD (planOf bytes plan .states) state []) i noBranch
@@ -128,11 +129,15 @@ module _ (bytes : List ℕ) (accepted : Accepted bytes) where
       branch-keeps : branchOk (length (planOf bytes plan .states)) state thisBranch ≡ true
       branch-keeps = branch-ok (planOf bytes plan .states) (keeps .states) state in-states i in-state
 
-      pub branch-kind : thisBranch .kind ≤ 4
+      pub branch-kind : thisBranch .kind ≤ 5
       branch-kind = kind-in _ _ thisBranch branch-keeps
 
       pub branch-sign : thisBranch .kind ≡ 2 → thisBranch .literal .head < negative
       branch-sign e = positive _ _ thisBranch branch-keeps e
+
+      pub branch-division : thisBranch .kind ≡ 5
+          → (thisBranch .literal .head < variablePairs) × (quotientIn (thisBranch .literal .head) ≡ remainderIn (thisBranch .literal .head) → ⊥) × (thisBranch .literal .third ≡ 0)
+      branch-division e = division _ _ thisBranch branch-keeps e
 
       pub branch-above : state < thisBranch .next
       branch-above = next-above _ _ thisBranch branch-keeps

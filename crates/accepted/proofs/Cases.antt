@@ -12,7 +12,7 @@ use Rattle.accepted.specs.Rules.{situationOk, actionsOk, branchOk, state
 use Rattle.accepted.specs.Refusal.{contentsFit, packedFrom, isPacked, planFitsAt, plansFit, refusalOf, Accepted, partRefusalOf, partOf}
 use Rattle.accepted.specs.Parser.{many, number, numberUpTo, upToFour, literal, situation, action, actions, branch, leadsUp, formTree, state, states, trigger, plan}
 use Rattle.accepted.specs.Parser.Parsed.{parsed}
-use Rattle.accepted.specs.Cases.{journalLibrary, journalPlan, journalPlanBy, markedLibrary, RefusalCase, refusalCases}
+use Rattle.accepted.specs.Cases.{journalLibrary, journalPlan, journalPlanBy, actsOutside, divides, divideLibrary, markedLibrary, RefusalCase, refusalCases}
 
 -- ---- Refusals
 
@@ -47,13 +47,22 @@ unfolding journalLibrary many number numberUpTo upToFour literal situation actio
 journal-parses = refl
 
 -- with the mark: the kind without it, and V7 chooses
-pub marked-library : libraryOf markedLibrary ≡ record { beliefs = []; plans = journalPlanBy 4 8 ∷ [] }
+pub marked-library : libraryOf markedLibrary ≡ record { beliefs = []; plans = journalPlanBy 4 8 actsOutside ∷ [] }
 unfolding markedLibrary journalLibrary libraryOf planCount beliefCount plansOff beliefsOf u16At items rows rowsEnd situationAt situationEnd actionsAt actionsEnd statesAt statesEnd maintenanceOff successOff failureOff statesOff planEnd planAt
 marked-library = refl
 
-pub marked-parses : plan (drop 8 markedLibrary) ≡ parsed (journalPlanBy 4 8) []
+pub marked-parses : plan (drop 8 markedLibrary) ≡ parsed (journalPlanBy 4 8 actsOutside) []
 unfolding markedLibrary journalLibrary many number numberUpTo upToFour literal situation action actions branch leadsUp formTree state states trigger plan all items isTree entriesIn entries
 marked-parses = refl
+
+-- with a divide in place of the action
+pub divide-library : libraryOf divideLibrary ≡ record { beliefs = []; plans = journalPlanBy 0 0 divides ∷ [] }
+unfolding divideLibrary journalLibrary libraryOf planCount beliefCount plansOff beliefsOf u16At items rows rowsEnd situationAt situationEnd actionsAt actionsEnd statesAt statesEnd maintenanceOff successOff failureOff statesOff planEnd planAt
+divide-library = refl
+
+pub divide-parses : plan (drop 8 divideLibrary) ≡ parsed (journalPlanBy 0 0 divides) []
+unfolding divideLibrary journalLibrary many number numberUpTo upToFour literal situation action actions branch leadsUp formTree state states trigger plan all items isTree entriesIn entries
+divide-parses = refl
 
 pub journal-part : partOf journalLibrary 0 ≡ drop 8 journalLibrary
 unfolding partOf partRefusalOf journalLibrary refusalOf contentsFit packedFrom isPacked beliefsOk planFitsAt plansFit planCount beliefCount plansOff beliefsOf u16At items rows rowsEnd all any distinct isGround same situationAt situationEnd actionsAt actionsEnd statesAt statesEnd maintenanceOff successOff failureOff statesOff planEnd planAt situationOk actionsOk branchOk stateOk statesFrom entriesIn entries isTree statesOk planOk

@@ -16,7 +16,7 @@ use Rattle.library.specs.declared.Branch.{Branch}
 use Rattle.library.specs.Plan.{Situation, Plan}
 use Rattle.library.specs.Bytes.{u16At, literalAt, actionAt, branchAt, rows, rowsEnd}
 use Rattle.library.specs.Layout.{situationAt, situationEnd, actionsAt, actionsEnd, statesAt, statesEnd, maintenanceOff, successOff, failureOff, statesOff, planEnd, planAt, kindIn, leastIn, planCount, planOf, entryOff, entryLength}
-use Rattle.accepted.specs.Rules.{atMost, situationOk, actionOk, actionsOk, signOk, branchOk, stateOk, statesFrom, isTree, statesOk, triggerOk, planOk}
+use Rattle.accepted.specs.Rules.{atMost, situationOk, actionOk, actionsOk, literalOk, branchOk, stateOk, statesFrom, isTree, statesOk, triggerOk, planOk}
 use Rattle.accepted.specs.Refusal.{planFitsAt, Accepted}
 use Rattle.accepted.specs.Parser.{literal, situation, action, actions, branch, leads, leadsUp, formTree, state, states, trigger, plan, upToFour}
 use Rattle.accepted.specs.Parser.Parsed.{parsed, offLayout}
@@ -87,7 +87,7 @@ actions-read bytes = four-read actionOk 10 (action-reads bytes)
 
 -- what a branch is by itself, wherever it leads
 abbrev branchAlone : Branch → Bool
-branchAlone b = leb (b .kind) 4 && signOk (b .kind) (b .literal .head)
+branchAlone b = leb (b .kind) 5 && literalOk (b .kind) (b .literal)
 
 abbrev stateAlone : List Branch → Bool
 stateAlone branches = atMost 4 branches && all branchAlone branches
@@ -96,10 +96,10 @@ branch-reads : (bytes : List ℕ) → Reads bytes branch (λ at. branchAlone (br
 unfolding branch
 branch-reads bytes =
     renamed
-    (then-reads (up-to-reads bytes 4) _ (λ k at. signOk k (u16At bytes at)) (λ k at. record { kind = k; literal = literalAt bytes at; next = u16At bytes (at + 8) }) (λ k at. at + 8 + 2)
-    (λ k. then-reads (literal-reads bytes) _ (λ l at. signOk k (l .head)) (λ l at. record { kind = k; literal = l; next = u16At bytes at }) (λ l at. at + 2)
-    (λ l. then-reads (number-reads bytes) _ (λ n at. signOk k (l .head)) (λ n at. record { kind = k; literal = l; next = n }) (λ n at. at)
-    (λ n. given-reads bytes (signOk k (l .head)) (record { kind = k; literal = l; next = n })))))
+    (then-reads (up-to-reads bytes 5) _ (λ k at. literalOk k (literalAt bytes at)) (λ k at. record { kind = k; literal = literalAt bytes at; next = u16At bytes (at + 8) }) (λ k at. at + 8 + 2)
+    (λ k. then-reads (literal-reads bytes) _ (λ l at. literalOk k l) (λ l at. record { kind = k; literal = l; next = u16At bytes at }) (λ l at. at + 2)
+    (λ l. then-reads (number-reads bytes) _ (λ n at. literalOk k l) (λ n at. record { kind = k; literal = l; next = n }) (λ n at. at)
+    (λ n. given-reads bytes (literalOk k l) (record { kind = k; literal = l; next = n })))))
     (λ at. branchAlone (branchAt bytes at))
     (branchAt bytes)
     (λ at. at + 12)
@@ -111,7 +111,7 @@ branch-reads bytes =
 state-both : (count i : ℕ) (branches : List Branch) → stateOk count i branches ≡ (stateAlone branches && all (leads count i) branches)
 unfolding stateOk branchOk
 state-both count i branches =
-    let split = all-same (branchOk count i) (λ b. branchAlone b && leads count i b) (λ b. and-assoc (leb (b .kind) 4) (signOk (b .kind) (b .literal .head)) (leads count i b)) branches ∙ all-both branchAlone (leads count i) branches in
+    let split = all-same (branchOk count i) (λ b. branchAlone b && leads count i b) (λ b. and-assoc (leb (b .kind) 5) (literalOk (b .kind) (b .literal)) (leads count i b)) branches ∙ all-both branchAlone (leads count i) branches in
     ap (λ t. atMost 4 branches && t) split ∙ and-assoc (atMost 4 branches) (all branchAlone branches) (all (leads count i) branches)
 
 states-both : (count i : ℕ) (ss : List (List Branch)) → statesFrom count i ss ≡ (all stateAlone ss && leadsUp count i ss)

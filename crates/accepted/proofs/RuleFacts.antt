@@ -1,21 +1,22 @@
 -- What the rules for a plan give, at an index.
 use Prim.Native.Nat.{ℕ, zero, suc, _+_, _-_, _<_, _≤_}
 use mathlib.Core.Path.{_≡_}
-use mathlib.Core.Bool.{true}
+use mathlib.Core.Bool.{true, not}
 use mathlib.Core.List.{List, [], _∷_}
 use native.Mathlib.Nat.{add-zero, zero-add}
 use native.Mathlib.Omega.{arith}
-use borrow.Author.Tests.{leb-true, ltb-true, eqb-true, eq-eqb}
+use borrow.Author.Tests.{leb-true, ltb-true, eqb-true, eqb-false, eq-eqb, ne-eqb, not-true}
 use lib.ListN.{length, getD}
-use lib.Dec.{leb, ltb}
+use lib.Dec.{leb, ltb, eqb}
 use Rattle.lists.specs.Search.{all}
 use Rattle.lists.proofs.BoolLaws.{and-parts}
 use Rattle.lists.proofs.AllLaws.{all-at}
 use Rattle.literal.specs.Literal.{negative}
+use Rattle.literal.specs.Divide.{quotientIn, remainderIn, variablePairs}
 use Rattle.library.specs.declared.Action.{Action}
 use Rattle.library.specs.declared.Branch.{Branch}
 use Rattle.library.specs.Plan.{Situation, Plan, noAction, noBranch}
-use Rattle.accepted.specs.Rules.{atMost, situationOk, actionOk, actionsOk, signOk, branchOk, stateOk, statesFrom, entries, enteredOnce, isTree, statesOk, triggerOk, planOk}
+use Rattle.accepted.specs.Rules.{atMost, situationOk, actionOk, actionsOk, divisionOk, literalOk, branchOk, stateOk, statesFrom, entries, enteredOnce, isTree, statesOk, triggerOk, planOk}
 use Rattle.library.proofs.RowLaws.{items-at}
 
 -- ---- Situations and actions
@@ -45,19 +46,29 @@ module _ (actions : List Action) (ok : actionsOk actions ≡ true) where
 -- ---- Branches and states
 
 module _ (count state : ℕ) (branch : Branch) (ok : branchOk count state branch ≡ true) where
-  tests : (leb (branch .kind) 4 ≡ true) × (signOk (branch .kind) (branch .literal .head) ≡ true) × (ltb state (branch .next) ≡ true) × (ltb (branch .next) count ≡ true)
+  tests : (leb (branch .kind) 5 ≡ true) × (literalOk (branch .kind) (branch .literal) ≡ true) × (ltb state (branch .next) ≡ true) × (ltb (branch .next) count ≡ true)
   unfolding branchOk
   tests =
-      let kind = and-parts (leb (branch .kind) 4) _ ok in
-      let sign = and-parts (signOk (branch .kind) (branch .literal .head)) _ (kind .1) in
-      let next = and-parts (ltb state (branch .next)) _ (sign .1) in
-      (kind .0, sign .0, next .0, next .1)
+      let kind = and-parts (leb (branch .kind) 5) _ ok in
+      let literal = and-parts (literalOk (branch .kind) (branch .literal)) _ (kind .1) in
+      let next = and-parts (ltb state (branch .next)) _ (literal .1) in
+      (kind .0, literal .0, next .0, next .1)
 
-  pub kind-in : branch .kind ≤ 4
+  pub kind-in : branch .kind ≤ 5
   kind-in = leb-true _ _ (tests .0)
 
   pub positive : branch .kind ≡ 2 → branch .literal .head < negative
   positive e = ltb-true _ _ (rw (eq-eqb _ _ e) at (tests .1))
+
+  -- a divide names two different variables, and its third term is 0
+  pub division : branch .kind ≡ 5
+      → (branch .literal .head < variablePairs) × (quotientIn (branch .literal .head) ≡ remainderIn (branch .literal .head) → ⊥) × (branch .literal .third ≡ 0)
+  division e =
+      let l = branch .literal in
+      let ok : divisionOk l ≡ true = rw (ne-eqb (branch .kind) 2 (λ q. absurd (omega arith)), eq-eqb (branch .kind) 5 e) at (tests .1) in
+      let pair = and-parts (ltb (l .head) variablePairs) _ ok in
+      let two = and-parts (not (eqb (quotientIn (l .head)) (remainderIn (l .head)))) _ (pair .1) in
+      (ltb-true _ _ (pair .0), eqb-false _ _ (not-true _ (two .0)), eqb-true _ _ (two .1))
 
   pub next-above : state < branch .next
   next-above = ltb-true _ _ (tests .2)

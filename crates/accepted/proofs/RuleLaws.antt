@@ -11,7 +11,7 @@ use Rattle.lists.specs.Search.{all}
 use Rattle.library.specs.declared.Branch.{Branch}
 use Rattle.library.specs.Bytes.{u16At, literalAt, actionAt, branchAt, items, rows}
 use Rattle.library.specs.Layout.{situationAt, actionsAt, statesAt}
-use Rattle.accepted.specs.Rules.{atMost, situationOk, actionOk, actionsOk, signOk, branchOk, stateOk, statesFrom, entriesIn, entries, enteredOnce, isTree, statesOk, numbers}
+use Rattle.accepted.specs.Rules.{atMost, situationOk, actionOk, actionsOk, literalOk, branchOk, stateOk, statesFrom, entriesIn, entries, enteredOnce, isTree, statesOk, numbers}
 use Rattle.library.proofs.RowLaws.{length-items, length-rows}
 
 -- ---- Rows of at most four items
@@ -55,23 +55,23 @@ module _ (bytes : List ℕ) (at count : ℕ) (e : count ≡ u16At bytes at) wher
 -- ---- A branch, test by test
 
 module _ (count state : ℕ) (b : Branch) where
-  pub kind-fails : 4 < b .kind → false ≡ branchOk count state b
+  pub kind-fails : 5 < b .kind → false ≡ branchOk count state b
   unfolding branchOk
   kind-fails h = rw (lt-leb _ _ h)
 
-  module _ (kind : b .kind ≤ 4) where
-    pub sign-fails : signOk (b .kind) (b .literal .head) ≡ false → false ≡ branchOk count state b
+  module _ (kind : b .kind ≤ 5) where
+    pub literal-fails : literalOk (b .kind) (b .literal) ≡ false → false ≡ branchOk count state b
     unfolding branchOk
-    sign-fails h = rw (le-leb _ _ kind, h)
+    literal-fails h = rw (le-leb _ _ kind, h)
 
-    module _ (sign : signOk (b .kind) (b .literal .head) ≡ true) where
+    module _ (literal : literalOk (b .kind) (b .literal) ≡ true) where
       pub next-low : ltb state (b .next) ≡ false → false ≡ branchOk count state b
       unfolding branchOk
-      next-low h = rw (le-leb _ _ kind, sign, h)
+      next-low h = rw (le-leb _ _ kind, literal, h)
 
       pub next-decides : ltb state (b .next) ≡ true → ltb (b .next) count ≡ branchOk count state b
       unfolding branchOk
-      next-decides h = rw (le-leb _ _ kind, sign, h)
+      next-decides h = rw (le-leb _ _ kind, literal, h)
 
 -- ---- States
 

@@ -11,7 +11,7 @@ use Rattle.library.specs.declared.Action.{Action}
 use Rattle.library.specs.declared.Branch.{Branch}
 use Rattle.library.specs.Plan.{Situation, Plan}
 use Rattle.library.specs.Layout.{kindIn, leastIn}
-use Rattle.accepted.specs.Rules.{signOk, isTree, triggerOk}
+use Rattle.accepted.specs.Rules.{literalOk, isTree, triggerOk}
 
 pub data Parsed (A : Type 0) : Type 0 where
   parsed : A → List ℕ → Parsed A
@@ -73,13 +73,13 @@ action bytes =
 unfoldable pub actions : List ℕ → Parsed (List Action)
 actions bytes = upToFour action bytes
 
--- a kind 0..4, a literal (positive for kind 2) and the next state
+-- a kind 0..5, a literal (positive for kind 2, two variables and two lengths for kind 5) and the next state
 unfoldable pub branch : List ℕ → Parsed Branch
 branch bytes =
-    andThen (numberUpTo 4 bytes)
+    andThen (numberUpTo 5 bytes)
     (λ kind one. andThen (literal one)
     (λ l two. andThen (number two)
-    (λ next rest. given (signOk kind (l .head)) (record { kind = kind; literal = l; next = next }) rest)))
+    (λ next rest. given (literalOk kind l) (record { kind = kind; literal = l; next = next }) rest)))
 
 -- number of branches 0..4, and them
 unfoldable pub state : List ℕ → Parsed (List Branch)

@@ -1,13 +1,14 @@
 -- The rules for a plan and a library, as tests of their values (document 01, "Library"; dMARS 5, Plan and Body).
 -- Departs from dMARS: every list has a greatest length, and the states form a tree by their numbers.
 use Prim.Native.Nat.{ℕ, _+_, _-_}
-use mathlib.Core.Bool.{Bool, true, cond, _&&_}
+use mathlib.Core.Bool.{Bool, true, cond, not, _&&_}
 use mathlib.Core.List.{List, [], _∷_}
 use lib.ListN.{length}
 use lib.Dec.{ltb, leb, eqb}
 use Rattle.lists.specs.Search.{all, distinct}
 use Rattle.literal.specs.declared.Literal.{Literal}
 use Rattle.literal.specs.Literal.{negative, isGround, same, opposed}
+use Rattle.literal.specs.Divide.{quotientIn, remainderIn, variablePairs}
 use Rattle.library.specs.declared.Action.{Action}
 use Rattle.library.specs.declared.Branch.{Branch}
 use Rattle.library.specs.Plan.{Situation, Plan, Library}
@@ -35,14 +36,18 @@ actionsOk actions = atMost 4 actions && all actionOk actions
 
 -- ---- States
 
--- the literal of an external action, which has kind 2, is positive
-abbrev pub signOk : ℕ → ℕ → Bool
-signOk kind head = cond (eqb kind 2) (ltb head negative) true
+-- a divide's predicate field is q + 8 × r for two different variable numbers, and its third term is 0 (document 02, request 11)
+abbrev pub divisionOk : Literal → Bool
+divisionOk l = ltb (l .head) variablePairs && (not (eqb (quotientIn (l .head)) (remainderIn (l .head))) && eqb (l .third) 0)
 
--- a branch of a state, of so many states: kind 0..4, sign, and a next state above this one that exists
+-- the literal of an external action, which has kind 2, is positive; that of a divide, which has kind 5, is as above
+abbrev pub literalOk : ℕ → Literal → Bool
+literalOk kind l = cond (eqb kind 2) (ltb (l .head) negative) (cond (eqb kind 5) (divisionOk l) true)
+
+-- a branch of a state, of so many states: kind 0..5, its literal, and a next state above this one that exists
 unfoldable pub branchOk : ℕ → ℕ → Branch → Bool
 branchOk count state branch =
-    leb (branch .kind) 4 && (signOk (branch .kind) (branch .literal .head) && (ltb state (branch .next) && ltb (branch .next) count))
+    leb (branch .kind) 5 && (literalOk (branch .kind) (branch .literal) && (ltb state (branch .next) && ltb (branch .next) count))
 
 unfoldable pub stateOk : ℕ → ℕ → List Branch → Bool
 stateOk count state branches = atMost 4 branches && all (branchOk count state) branches

@@ -1,5 +1,6 @@
 // The rules for a plan, tested on its bytes.
 use library::Branch;
+use library::DIVIDE;
 use library::bytes::ACTION_BYTES;
 use library::bytes::BRANCH_BYTES;
 use library::bytes::LITERAL_BYTES;
@@ -16,13 +17,16 @@ use library::plan::states_offset;
 use library::plan::success_offset;
 use library::plan::trigger_kind;
 use library::plan::trigger_least;
+use literal::Literal;
+use literal::REMAINDER_FACTOR;
+use literal::VARIABLE_PAIRS;
 use literal::VARIABLES;
 ghost use mathlib.Core.Path.{_≡_};
 ghost use Prim.Native.Nat.{_<_, _≤_, _^_};
 ghost use Rattle.lists.specs.Search.{all};
 ghost use Rattle.library.specs.Bytes.{literalAt, actionAt, branchAt, items, rows};
 ghost use Rattle.library.specs.Layout.{situationAt, actionsAt, statesAt, planOf};
-ghost use Rattle.accepted.specs.Rules.{atMost, situationOk, actionOk, actionsOk, signOk, branchOk, stateOk};
+ghost use Rattle.accepted.specs.Rules.{atMost, situationOk, actionOk, actionsOk, divisionOk, literalOk, branchOk, stateOk};
 ghost use Rattle.accepted.specs.Rules.{statesFrom, entriesIn, entries, isTree, statesOk, triggerOk};
 ghost use Rattle.accepted.specs.Refusal.{planFits};
 
@@ -31,7 +35,7 @@ const MOST_ITEMS: usize = 4;
 
 const MOST_STATES: usize = 16;
 
-// The last kind of a trigger and of a branch.
+// The last kind of a trigger.
 const LAST_KIND: u16 = 4;
 
 // The last kind of an action.
@@ -105,25 +109,41 @@ fn actions_ok(bytes: &[u8], at: usize) -> bool
 
 // ---- States
 
-// Whether the sign is one for a branch of the kind.
-fn sign_ok(kind: u16, head: u16) -> bool
-    ensures { λ r. ⌜ r ≡ signOk kind head ⌝ }
+// Whether a divide's literal names two different variables, and its third term is 0.
+fn division_ok(l: Literal) -> bool
+    ensures { λ r. ⌜ r ≡ divisionOk l ⌝ }
 {
-    if kind != EXTERNAL {
-        return true;
+    if VARIABLE_PAIRS <= l.head {
+        return false;
     }
-    head < NEGATIVE
+    if l.head % REMAINDER_FACTOR == l.head / REMAINDER_FACTOR {
+        return false;
+    }
+    l.third == 0
+}
+
+// Whether the literal is one for a branch of the kind.
+fn literal_ok(kind: u16, l: Literal) -> bool
+    ensures { λ r. ⌜ r ≡ literalOk kind l ⌝ }
+{
+    if kind == EXTERNAL {
+        return l.head < NEGATIVE;
+    }
+    if kind == DIVIDE {
+        return division_ok(l);
+    }
+    true
 }
 
 fn branch_ok(branch: Branch, count: usize, state: usize) -> bool
     ensures { λ r. ⌜ r ≡ branchOk count state branch ⌝ }
 {
     let kind = branch.kind;
-    if LAST_KIND < kind {
+    if DIVIDE < kind {
         return false;
     }
     let literal = branch.literal;
-    if !sign_ok(kind, literal.head) {
+    if !literal_ok(kind, literal) {
         return false;
     }
     let next = branch.next as usize;

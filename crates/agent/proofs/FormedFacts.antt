@@ -37,7 +37,8 @@ use Rattle.model.specs.Live.{isGoal, live, serves, isPending, isReady, isPoster
 use Rattle.model.specs.declared.Instance.{Instance}
 use Rattle.model.specs.Instance.{isSuspended, branchesOf}
 use Rattle.model.specs.Report.{reportRefusal, reportChanges, takeIn, reportBy, reported, newEvent}
-use Rattle.model.specs.Try.{missed, stepped, done, posted, isPossible, tryChange, tryAction, answerTo, isBarred, pursue, attempt}
+use Rattle.literal.specs.Divide.{divide}
+use Rattle.model.specs.Try.{missed, stepped, done, posted, isPossible, tryChange, tryAction, tryDivide, answerTo, isBarred, pursue, attempt}
 use Rattle.model.specs.Turn.{heightOf, isRunning}
 use Rattle.model.specs.Calls.{act}
 use Rattle.model.specs.WellFormed.{isWellFormed}
@@ -70,6 +71,11 @@ action-posts : {P : Type 0} (literal goal : Literal) (b : Bool) → cond b (done
 action-posts literal goal true e = let z : _≡_ {A = ℕ} 0 1 = cc in absurd (omega arith)
 action-posts literal goal false e = let z : _≡_ {A = ℕ} 0 1 = cc in absurd (omega arith)
 
+divide-posts : {P : Type 0} (o : Option Env) (goal : Literal) → tryDivide o ≡ posted goal → P
+unfolding tryDivide
+divide-posts none goal e = let z : _≡_ {A = ℕ} 0 1 = cc in absurd (omega arith)
+divide-posts (some env) goal e = let z : _≡_ {A = ℕ} 0 1 = cc in absurd (omega arith)
+
 pursue-posts : (answer : Option Env) (barred : Bool) (literal goal : Literal) → pursue answer barred literal ≡ posted goal → barred ≡ false
 unfolding pursue
 pursue-posts (some env) barred literal goal e = let z : _≡_ {A = ℕ} 0 1 = cc in absurd (omega arith)
@@ -85,10 +91,12 @@ posted-low beliefs height env b goal e =
     (λ p. change-posts env (effective beliefs c) goal (isPossible beliefs c) (rw p at e))
     (λ p. by-cases (eqb (b .kind) 2)
     (λ q. action-posts literal goal (isGround literal) (rw (p, q) at e))
-    (λ q.
+    (λ q. by-cases (eqb (b .kind) 5)
+    (λ r. divide-posts (divide (b .literal) env) goal (rw (p, q, r) at e))
+    (λ r.
     let other = not (eqb (b .kind) 3) && holds beliefs (opposite literal) in
-    let barred = pursue-posts (answerTo (b .kind) beliefs env (b .literal)) (not (isGround literal) || (other || leb 8 height)) literal goal (rw (p, q) at e) in
-    leb-false 8 height (or-parts other (leb 8 height) (or-parts (not (isGround literal)) (other || leb 8 height) barred .1) .1)))
+    let barred = pursue-posts (answerTo (b .kind) beliefs env (b .literal)) (not (isGround literal) || (other || leb 8 height)) literal goal (rw (p, q, r) at e) in
+    leb-false 8 height (or-parts other (leb 8 height) (or-parts (not (isGround literal)) (other || leb 8 height) barred .1) .1))))
 
 module _ (bytes : List ℕ) (s : State) (fits : countsFit s ≡ true) (formed : isWellFormed (libraryOf bytes) (viewState s) ≡ true)
     (sized : Sized s) where

@@ -24,7 +24,7 @@ use Rattle.model.specs.declared.Status.{Status}
 use Rattle.model.specs.declared.Status.the-variants.{Waiting, Suspended}
 use Rattle.lists.specs.Counts.{count}
 use Rattle.model.specs.State.{mostExternal}
-use Rattle.model.specs.Instance.{isSuspended, planOf, branchesOf, branchOf}
+use Rattle.model.specs.Instance.{isSuspended, planOf, branchesOf, branchOf, isGoalKind}
 use Rattle.model.specs.Live.{isGoal, isExternal, sameOrigin, goalOf, Job}
 use Rattle.model.specs.Report.{toldKind}
 use Rattle.model.specs.WellFormed.{isNumbered, isEventSound, sameEvent, areEvents, isStatus, isSound, isInstance, areInstances, sameId, sameServed, isStack, isServed, isGoalFor, hasGoal, isPosted, hasPoster}
@@ -94,7 +94,7 @@ pub waits : (tried kind : ℕ) (status : Status) → status ≡ Waiting → 0 < 
 unfolding isStatus
 waits tried kind status e h = rw (e, lt-ltb 0 tried h)
 
-pub sleeps : (tried kind : ℕ) (status : Status) → status ≡ Suspended → 0 < tried → leb 3 kind ≡ isStatus tried kind status
+pub sleeps : (tried kind : ℕ) (status : Status) → status ≡ Suspended → 0 < tried → isGoalKind kind ≡ isStatus tried kind status
 unfolding isStatus
 sleeps tried kind status e h = rw (e, lt-ltb 0 tried h)
 

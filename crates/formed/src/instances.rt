@@ -4,7 +4,7 @@ ghost use mathlib.Core.Bool.{_&&_};
 ghost use Prim.Native.Nat.{_≤_};
 ghost use Rattle.lists.specs.Search.{distinct};
 ghost use Rattle.library.specs.Layout.{libraryOf};
-ghost use Rattle.model.specs.Instance.{branchOf};
+ghost use Rattle.model.specs.Instance.{branchOf, isGoalKind};
 ghost use Rattle.model.specs.WellFormed.{isStatus, isSound, isInstance, areInstances, sameServed};
 ghost use Rattle.jobs.specs.Jobs.{jobOf, viewJobs};
 use super::events::is_within;
@@ -13,6 +13,7 @@ use jobs::Jobs;
 use jobs::place::branch;
 use jobs::place::branch_count;
 use jobs::place::state_count;
+use library::DIVIDE;
 use library::contents::plan_count;
 use literal::is_env;
 use model::ACHIEVE;
@@ -21,6 +22,16 @@ use model::Instance;
 use model::Number;
 use model::Status;
 use state::origin::same_origin;
+
+// Achieve or query.
+fn is_goal_kind(kind: u16) -> bool
+    ensures { λ r. ⌜ r ≡ isGoalKind kind ⌝ }
+{
+    if kind < ACHIEVE {
+        return false;
+    }
+    kind != DIVIDE
+}
 
 // A waiting instance's branch is external, a suspended one's a goal.
 fn is_status(library: &[u8], x: Instance) -> bool
@@ -41,7 +52,7 @@ fn is_status(library: &[u8], x: Instance) -> bool
                 return false;
             }
             let tried = branch(library, x);
-            ACHIEVE <= tried.kind
+            is_goal_kind(tried.kind)
         }
     }
 }

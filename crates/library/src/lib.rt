@@ -11,7 +11,10 @@ pub struct Action {
     pub literal: Literal,
 }
 
-// A branch: kind 0 adds, 1 removes, 2 acts outside, 3 achieves, 4 queries; then the state that it leads to.
+// The kind of a branch that divides, and the last kind of a branch.
+pub const DIVIDE: u16 = 5;
+
+// A branch: kind 0 adds, 1 removes, 2 acts outside, 3 achieves, 4 queries, 5 divides; then the state that it leads to.
 pub struct Branch {
     pub kind: u16,
     pub literal: Literal,

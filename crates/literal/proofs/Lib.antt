@@ -3,3 +3,4 @@ pub mod MatchSteps
 pub mod EnvLaws
 pub mod EntryLaws
 pub mod MatchLaws
+pub mod DivideLaws

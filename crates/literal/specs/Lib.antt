@@ -1,3 +1,5 @@
 pub mod Literal
 pub mod Environment
 pub mod Match
+pub mod Divide
+pub mod Cases

@@ -6,11 +6,19 @@ ghost use lib.Dec.{eqb};
 ghost use Rattle.literal.specs.Literal.{isConstant, isGround, same, opposite};
 ghost use Rattle.literal.specs.Environment.{value, instantiate, emptyEnv, isEnv, replace, bind};
 ghost use Rattle.literal.specs.Match.{matchTerm, matchLiteral, answer};
+ghost use Rattle.literal.specs.Divide.{divide};
 
 // Terms from this number on are the variables V0 to V7, and lower ones are constants.
 pub const FIRST_VARIABLE: u16 = 65528;
 
 pub const VARIABLES: usize = 8;
+
+// A divide's predicate field is q plus this many times r, for the variables Vq and Vr.
+pub const REMAINDER_FACTOR: u16 = 8;
+
+// Fields from this number on name no two variables.
+pub const VARIABLE_PAIRS: u16 = 64;
+
 // What a negative literal's head has above its predicate.
 const NEGATIVE: u16 = 32768;
 
@@ -208,4 +216,38 @@ pub fn match_literal(l: Literal, ground: Literal, env: Env) -> Match
         return three;
     }
     no_match(env)
+}
+
+// The first term divided by the second: the quotient and the remainder are bound to the two variables that the head names.
+pub fn divide(l: Literal, env: Env) -> Match
+    ensures { λ r. ⌜ r ≡ answer env (divide l env) ⌝ }
+{
+    if VARIABLE_PAIRS <= l.head {
+        return no_match(env);
+    }
+    let length = value_of(env, l.first);
+    if FIRST_VARIABLE <= length {
+        return no_match(env);
+    }
+    let panel = value_of(env, l.second);
+    if FIRST_VARIABLE <= panel {
+        return no_match(env);
+    }
+    if panel == 0 {
+        return no_match(env);
+    }
+    let quotient = value_of(env, FIRST_VARIABLE + l.head % REMAINDER_FACTOR);
+    if quotient < FIRST_VARIABLE {
+        return no_match(env);
+    }
+    let remainder = value_of(env, FIRST_VARIABLE + l.head / REMAINDER_FACTOR);
+    if remainder < FIRST_VARIABLE {
+        return no_match(env);
+    }
+    let once = bound(quotient, length / panel, env);
+    let both = bound(remainder, length % panel, once);
+    Match {
+        found: true,
+        env: both,
+    }
 }

@@ -2,6 +2,7 @@ pub mod SmallCases
 pub mod OriginLaws
 pub mod ChangeLaws
 pub mod InstanceLaws
+pub mod DivideLaws
 pub mod TryLaws
 pub mod LinkedLaws
 pub mod LocalLaws

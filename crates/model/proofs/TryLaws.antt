@@ -1,27 +1,29 @@
 -- What comes of a branch keeps the rules: what is bound is an environment, what changes is a belief table, what is posted is a goal.
 use Prim.Native.Nat.{ℕ, _≤_, _<_}
-use mathlib.Core.Path.{_≡_, refl}
+use mathlib.Core.Path.{_≡_, refl, ap}
 use mathlib.Core.Option.{Option, none, some}
 use mathlib.Core.Bool.{Bool, true, false, cond, not, _&&_}
 use mathlib.Core.List.{List, []}
 use native.Mathlib.Omega.{arith}
-use lib.Dec.{ltb, eqb}
+use lib.Dec.{ltb, leb, eqb}
 use lib.ListN.{length}
 use borrow.Author.Tests.{ltb-false, leb-false, le-leb, eqb-false, not-false}
 use Rattle.lists.specs.Search.{all}
-use Rattle.lists.proofs.BoolLaws.{or-parts}
+use Rattle.lists.proofs.BoolLaws.{or-parts, and-both}
 use Rattle.literal.specs.declared.Literal.{Literal}
 use Rattle.literal.specs.declared.Env.{Env}
 use Rattle.literal.specs.Literal.{isGround, opposite}
 use Rattle.literal.specs.Environment.{isEnv, instantiate}
+use Rattle.literal.specs.Divide.{divide}
+use Rattle.literal.proofs.DivideLaws.{divide-env}
 use Rattle.belief.specs.declared.Change.{Change}
 use Rattle.belief.specs.Beliefs.{holds, areBeliefs, replay}
 use Rattle.library.specs.declared.Branch.{Branch}
 use Rattle.situation.specs.Solutions.{ask}
 use Rattle.model.specs.State.{mostHeight}
-use Rattle.model.specs.Instance.{actionKind, achieveKind, isActionKind, isGoalKind}
+use Rattle.model.specs.Instance.{actionKind, achieveKind, divideKind, isActionKind, isGoalKind}
 use Rattle.model.specs.Changes.{changeOf, effective, areEffective}
-use Rattle.model.specs.Try.{Try, missed, stepped, done, posted, isPossible, tryChange, tryAction, answerTo, isBarred, pursue, attempt}
+use Rattle.model.specs.Try.{Try, missed, stepped, done, posted, isPossible, tryChange, tryAction, tryDivide, answerTo, isBarred, pursue, attempt}
 use Rattle.situation.proofs.SolutionLaws.{EnvIf, ask-env-if}
 use Rattle.model.proofs.ChangeLaws.{effective-kept, effective-does, effective-few}
 
@@ -76,6 +78,14 @@ module _ (beliefs : List Literal) (height : ℕ) (env : Env) (b : Branch) where
         go true false = tt
         go false p = ask-env-if beliefs ground (b .literal) env e
 
+    divide-ok : TryOk (tryDivide (divide (b .literal) env))
+    unfolding tryDivide
+    divide-ok = go (divide (b .literal) env) refl
+      where
+        go : (o : Option Env) → divide (b .literal) env ≡ o → TryOk (tryDivide o)
+        go none p = tt
+        go (some next) p = still next (divide-env (b .literal) env next p e)
+
     pursue-ok : isGoalKind (b .kind) ≡ true
         → TryOk (pursue (answerTo (b .kind) beliefs env (b .literal)) (isBarred (b .kind) beliefs height (instantiate env (b .literal))) (instantiate env (b .literal)))
     unfolding pursue isBarred
@@ -92,12 +102,15 @@ module _ (beliefs : List Literal) (height : ℕ) (env : Env) (b : Branch) where
 
     pub attempt-ok : TryOk (attempt beliefs height env b)
     unfolding attempt
-    attempt-ok = go (ltb (b .kind) actionKind) (eqb (b .kind) actionKind) refl refl
+    attempt-ok = go (ltb (b .kind) actionKind) (eqb (b .kind) actionKind) (eqb (b .kind) divideKind) refl refl refl
       where
-        go : (low same : Bool) → ltb (b .kind) actionKind ≡ low → eqb (b .kind) actionKind ≡ same
+        go : (low same divides : Bool) → ltb (b .kind) actionKind ≡ low → eqb (b .kind) actionKind ≡ same → eqb (b .kind) divideKind ≡ divides
             → TryOk (cond low (tryChange beliefs env (changeOf (b .kind) (instantiate env (b .literal))))
             (cond same (tryAction (instantiate env (b .literal)))
-            (pursue (answerTo (b .kind) beliefs env (b .literal)) (isBarred (b .kind) beliefs height (instantiate env (b .literal))) (instantiate env (b .literal)))))
-        go true same p q = change-ok (changeOf (b .kind) (instantiate env (b .literal)))
-        go false true p q = action-ok q (instantiate env (b .literal))
-        go false false p q = pursue-ok (le-leb achieveKind (b .kind) (omega (arith, ltb-false (b .kind) actionKind p, eqb-false (b .kind) actionKind q)))
+            (cond divides (tryDivide (divide (b .literal) env))
+            (pursue (answerTo (b .kind) beliefs env (b .literal)) (isBarred (b .kind) beliefs height (instantiate env (b .literal))) (instantiate env (b .literal))))))
+        go true same divides p q r = change-ok (changeOf (b .kind) (instantiate env (b .literal)))
+        go false true divides p q r = action-ok q (instantiate env (b .literal))
+        go false false true p q r = divide-ok
+        go false false false p q r =
+            pursue-ok (and-both (leb achieveKind (b .kind)) _ (le-leb achieveKind (b .kind) (omega (arith, ltb-false (b .kind) actionKind p, eqb-false (b .kind) actionKind q))) (ap not r))

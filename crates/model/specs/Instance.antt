@@ -1,7 +1,7 @@
 -- Plan instances (document 01, "State"; dMARS 6, PlanInst and Status; Appendix B, NextBranches and NextState).
 -- Departs from dMARS: the branches tried are a count, and waiting is a status.
 use Prim.Native.Nat.{ℕ, _+_, _-_}
-use mathlib.Core.Bool.{Bool, true, false}
+use mathlib.Core.Bool.{Bool, true, false, not, _&&_}
 use mathlib.Core.List.{List, []}
 use lib.Dec.{leb, eqb}
 use lib.ListN.{getD}
@@ -73,7 +73,7 @@ awake x = moved x (x .env) (x .state) (x .tried) Active
 unfoldable pub pastBranch : Library → Instance → Instance
 pastBranch library x = stepTo (branchOf library x .next) (x .env) x
 
--- ---- Kinds of branches: 0 add, 1 remove, 2 external action, 3 achieve, 4 query
+-- ---- Kinds of branches: 0 add, 1 remove, 2 external action, 3 achieve, 4 query, 5 divide
 
 abbrev pub actionKind : ℕ
 actionKind = 2
@@ -81,9 +81,12 @@ actionKind = 2
 abbrev pub achieveKind : ℕ
 achieveKind = 3
 
+abbrev pub divideKind : ℕ
+divideKind = 5
+
 abbrev pub isActionKind : ℕ → Bool
 isActionKind kind = eqb kind actionKind
 
--- achieve or query
+-- achieve or query: a divide is no goal
 abbrev pub isGoalKind : ℕ → Bool
-isGoalKind kind = leb achieveKind kind
+isGoalKind kind = leb achieveKind kind && not (eqb kind divideKind)

@@ -11,6 +11,7 @@ pub mod Outcome
 pub mod Cycle
 pub mod WellFormed
 pub mod Formed
+pub mod Divide
 pub mod Calls
 pub mod Lines
 pub mod Run

@@ -1,6 +1,6 @@
 -- Longer runs, each as its library, its calls and the results that are wanted: turn order, goals, branches, lists and refusals
 -- (document 01, "The three calls").
-use Prim.Native.Nat.{ℕ, _+_}
+use Prim.Native.Nat.{ℕ, _+_, _*_}
 use mathlib.Core.Bool.{true, false}
 use mathlib.Core.List.{List, [], _∷_, _++_, map}
 use Rattle.literal.specs.declared.Literal.{Literal}
@@ -346,9 +346,33 @@ shortest =
     (plain (Taken 1) ∷ plain (MadeExternal 1 0 1) ∷ removing (Succeeded 1) (lit 3 5)
     ∷ plain (Taken 2) ∷ plain (MadeExternal 2 0 2) ∷ removing (Succeeded 2) (lit 3 6) ∷ [])
 
+-- ---- A length is divided into panels and an offcut (request 11)
+
+-- a divide of V0 by 5 into Vq and Vr
+abbrev byFive : ℕ → ℕ → ℕ → Branch
+byFive q r next = record { kind = 5; literal = record { head = q + 8 * r; first = V0; second = 5; third = 0 }; next = next }
+
+-- +8 V1 V2
+abbrev panelsAndOffcut : ℕ → ℕ → Literal
+panelsAndOffcut panels offcut = record { head = 8; first = panels; second = offcut; third = 0 }
+
+-- told +1 V0: a divide into V0 itself, which is missed, or into V1 and V2; then add +8 V1 V2
+abbrev dividesLength : Plan
+dividesLength =
+    whenTold [] []
+    ((byFive 0 1 1 ∷ byFive 1 2 2 ∷ []) ∷ [] ∷ (record { kind = 0; literal = panelsAndOffcut V1 V2; next = 3 } ∷ []) ∷ [] ∷ [])
+
+abbrev divided : Scenario
+divided =
+    fromLoaded (record { beliefs = []; plans = dividesLength ∷ [] })
+    (report 2 (lit 1 17) ∷ cycle ∷ cycle ∷ cycle ∷ cycle ∷ cycle ∷ [])
+    (plain (Taken 1) ∷ plain (MadeExternal 1 0 1) ∷ plain (Missed 1 0 0) ∷ plain (Stepped 1 0 1 2)
+    ∷ adding (Stepped 1 2 0 3) (panelsAndOffcut 3 2) ∷ plain (Succeeded 1) ∷ [])
+
 abbrev pub scenarios : List Scenario
 scenarios =
-    shortest ∷ opposites ∷ turns ∷ unmet ∷ met ∷ branches ∷ outcomes ∷ eight ∷ inPlace ∷ effects ∷ applies ∷ drops ∷ full ∷ illFormed ∷ []
+    divided ∷ shortest
+    ∷ opposites ∷ turns ∷ unmet ∷ met ∷ branches ∷ outcomes ∷ eight ∷ inPlace ∷ effects ∷ applies ∷ drops ∷ full ∷ illFormed ∷ []
 
 -- ---- Which refusal of a report comes first
 

@@ -14,6 +14,7 @@ use Rattle.literal.specs.declared.Literal.{Literal}
 use Rattle.literal.specs.declared.Env.{Env}
 use Rattle.literal.specs.Literal.{isGround, opposite}
 use Rattle.literal.specs.Environment.{instantiate}
+use Rattle.literal.specs.Divide.{divide}
 use Rattle.belief.specs.declared.Change.{Change}
 use Rattle.belief.specs.Beliefs.{holds, fits}
 use Rattle.library.specs.declared.Branch.{Branch}
@@ -24,7 +25,7 @@ use Rattle.model.specs.declared.Origin.the-variants.{Goal}
 use Rattle.model.specs.declared.Status.the-variants.{Active, Waiting, Suspended}
 use Rattle.model.specs.declared.Answer.the-variants.{Stepped, Missed, Done, Posted}
 use Rattle.model.specs.State.{mostHeight, Intention, AgentState, Reply, reply, after}
-use Rattle.model.specs.Instance.{stepTo, tryNext, actionKind, achieveKind}
+use Rattle.model.specs.Instance.{stepTo, tryNext, actionKind, achieveKind, divideKind}
 use Rattle.model.specs.Changes.{changeOf, effective}
 
 -- what came of a branch: missed; stepped, with an environment and changes; done, an action; posted, a goal
@@ -50,6 +51,13 @@ tryChange beliefs env c = cond (isPossible beliefs c) (stepped env (effective be
 unfoldable pub tryAction : Literal → Try
 tryAction literal = cond (isGround literal) (done literal) missed
 
+-- ---- Divide (document 02, request 11; not in dMARS)
+
+-- divide: missed if it cannot be done; else stepped with the environment after it, and no belief changes
+unfoldable pub tryDivide : Option Env → Try
+tryDivide none = missed
+tryDivide (some env) = stepped env []
+
 -- ---- Achieve and query (dMARS 8.4.3, 8.4.4): ask the beliefs, then post
 
 -- the environment after it where the beliefs have the answer: an achieve is held, a query is matched by a first belief
@@ -72,13 +80,14 @@ pursue none false goal = posted goal
 
 -- ---- A branch by its kind, with the beliefs, the stack's height and the environment
 
--- otherwise tries the next branch: add or remove, external, achieve or query
+-- otherwise tries the next branch: add or remove, external, divide, achieve or query
 unfoldable pub attempt : List Literal → ℕ → Env → Branch → Try
 attempt beliefs height env b =
     let literal = instantiate env (b .literal) in
     cond (ltb (b .kind) actionKind) (tryChange beliefs env (changeOf (b .kind) literal))
     (cond (eqb (b .kind) actionKind) (tryAction literal)
-    (pursue (answerTo (b .kind) beliefs env (b .literal)) (isBarred (b .kind) beliefs height literal) literal))
+    (cond (eqb (b .kind) divideKind) (tryDivide (divide (b .literal) env))
+    (pursue (answerTo (b .kind) beliefs env (b .literal)) (isBarred (b .kind) beliefs height literal) literal)))
 
 -- ---- What it does to the state
 

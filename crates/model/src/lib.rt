@@ -31,7 +31,7 @@ pub enum Origin {
 // The kind of an event that was told.
 pub const TOLD: u16 = 2;
 
-// Kinds of branches: below ACTION they change a belief, above it they pursue a goal.
+// Kinds of branches: below ACTION they change a belief, above it they pursue a goal, but for library::DIVIDE.
 pub const ACTION: u16 = 2;
 
 pub const ACHIEVE: u16 = 3;

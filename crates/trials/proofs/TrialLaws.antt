@@ -97,10 +97,10 @@ module _ (kind : ℕ) (beliefs : List Literal) where
 -- ---- A branch by its kind
 
 module _ (beliefs : List Literal) (height : ℕ) (env : Env) (b : Branch) where
-  pub attempt-goal : 2 < b .kind → attempt beliefs height env b
+  pub attempt-goal : (b .kind ≡ 5 → ⊥) → 2 < b .kind → attempt beliefs height env b
       ≡ pursue (answerTo (b .kind) beliefs env (b .literal)) (isBarred (b .kind) beliefs height (instantiate env (b .literal))) (instantiate env (b .literal))
   unfolding attempt
-  attempt-goal h = rw (le-ltb (b .kind) 2 (omega arith), ne-eqb (b .kind) 2 (λ q. absurd (omega arith)))
+  attempt-goal d h = rw (le-ltb (b .kind) 2 (omega arith), ne-eqb (b .kind) 2 (λ q. absurd (omega arith)), ne-eqb (b .kind) 5 d)
 
   pub attempt-action : b .kind ≡ 2 → attempt beliefs height env b ≡ tryAction (instantiate env (b .literal))
   unfolding attempt

@@ -4,14 +4,16 @@ ghost use mathlib.Core.List.{[]};
 ghost use mathlib.Core.Option.{none};
 ghost use Rattle.literal.specs.Environment.{instantiate};
 ghost use Rattle.literal.specs.Match.{answer};
+ghost use Rattle.literal.specs.Divide.{divide};
 ghost use Rattle.belief.specs.Beliefs.{view};
-ghost use Rattle.model.specs.Try.{tryChange, tryAction, answerTo, isBarred, pursue, attempt};
+ghost use Rattle.model.specs.Try.{tryChange, tryAction, tryDivide, answerTo, isBarred, pursue, attempt};
 ghost use Rattle.trials.specs.Trial.{viewOutcome, Tries};
 use crate::changes;
 use crate::changes::Altered;
 use belief::Beliefs;
 use belief::Change;
 use library::Branch;
+use library::DIVIDE;
 use literal::Env;
 use literal::Literal;
 use literal::Match;
@@ -144,12 +146,29 @@ fn try_goal(b: Beliefs, height: usize, env: Env, kind: u16, l: Literal) -> Trial
     try_post(b, height, env, kind, goal)
 }
 
+// A divide: stepped where it can be done, else missed; no belief changes.
+fn try_divide(b: Beliefs, env: Env, l: Literal) -> Trial
+    ensures { λ r. ⌜ Tries b (tryDivide (divide l env)) r ⌝ }
+{
+    let m = literal::divide(l, env);
+    if m.found {
+        let stepped = Outcome::Stepped;
+        let extended = m.env;
+        return plain_trial(b, extended, stepped);
+    }
+    let missed = Outcome::Missed;
+    plain_trial(b, env, missed)
+}
+
 // A branch by its kind, from the beliefs, the stack's height and the environment.
 pub fn attempt(b: Beliefs, height: usize, env: Env, branch: Branch) -> Trial
     ensures { λ r. ⌜ Tries b (attempt (view b) height env branch) r ⌝ }
 {
     let kind = branch.kind;
     let l = branch.literal;
+    if kind == DIVIDE {
+        return try_divide(b, env, l);
+    }
     if ACTION < kind {
         return try_goal(b, height, env, kind, l);
     }

@@ -1,6 +1,6 @@
 //! Damaged libraries, one kind at a time, each with the refusal that it is to meet.
 
-use crate::draft::{Branch, EXTERNAL, Library, NEGATIVE, Plan, V0, opposite};
+use crate::draft::{Branch, DIVIDE, EXTERNAL, Library, NEGATIVE, Plan, V0, opposite};
 use crate::random::Random;
 
 /// Damage to a draft, before it is written.
@@ -63,7 +63,19 @@ pub const TO_DRAFT: &[(&str, u16, OnDraft)] = &[
     ("five branches", 4, |random, library| {
         some_plan(random, library).states = vec![(1..=5).map(branch_to).collect(), vec![], vec![], vec![], vec![], vec![]];
     }),
-    ("branch kind over 4", 4, |random, library| some_branch(random, library).kind = random.between(5, 65_535) as u16),
+    ("branch kind over 5", 4, |random, library| some_branch(random, library).kind = random.between(6, 65_535) as u16),
+    ("division with a sign", 4, |random, library| some_division(random, library).literal[0] |= NEGATIVE),
+    ("division field over 63", 4, |random, library| {
+        let any = random.between(64, 32_767) as u16;
+        some_division(random, library).literal[0] = *random.pick(&[64, 65, 72, 128, 32_767, any]);
+    }),
+    ("division into one variable", 4, |random, library| {
+        some_division(random, library).literal[0] = 9 * random.below(8) as u16;
+    }),
+    ("division with a third term", 4, |random, library| {
+        let any = random.between(1, 65_535) as u16;
+        some_division(random, library).literal[3] = *random.pick(&[1, 32_768, V0, any]);
+    }),
     ("negative external action", 4, |random, library| {
         let branch = some_branch(random, library);
         branch.kind = EXTERNAL;
@@ -168,6 +180,15 @@ fn some_branch<'a>(random: &mut Random, library: &'a mut Library) -> &'a mut Bra
     plan.states = path(random.between(2, 16) as u16);
     let place = random.below(plan.states.len() - 1);
     &mut plan.states[place][0]
+}
+
+/// Some branch that divides.
+fn some_division<'a>(random: &mut Random, library: &'a mut Library) -> &'a mut Branch {
+    let variable = random.below(8) as u16;
+    let other = (variable + random.between(1, 7) as u16) % 8;
+    let branch = some_branch(random, library);
+    (branch.kind, branch.literal) = (DIVIDE, [variable + 8 * other, 7, 2, 0]);
+    branch
 }
 
 fn path(states: u16) -> Vec<Vec<Branch>> {

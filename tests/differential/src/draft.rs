@@ -23,6 +23,7 @@ pub const REMOVE: u16 = 1;
 pub const EXTERNAL: u16 = 2;
 pub const ACHIEVE: u16 = 3;
 pub const QUERY: u16 = 4;
+pub const DIVIDE: u16 = 5;
 
 #[derive(Clone)]
 pub struct Branch {

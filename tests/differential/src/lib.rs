@@ -8,6 +8,7 @@ pub mod draft;
 pub mod ledger;
 pub mod lines;
 mod offcuts;
+mod panels;
 pub mod plans;
 pub mod programs;
 pub mod random;

@@ -1,7 +1,10 @@
 //! Valid libraries from a seed.
 
-use crate::draft::{ACHIEVE, ADD, ADDED, Branch, EXTERNAL, Library, Literal, NEGATIVE, Plan, QUERY, Situation, V0, opposite};
+use crate::draft::{
+    ACHIEVE, ADD, ADDED, Branch, DIVIDE, EXTERNAL, Library, Literal, NEGATIVE, Plan, QUERY, Situation, V0, opposite,
+};
 use crate::offcuts;
+use crate::panels;
 use crate::random::Random;
 
 /// What a library leans towards.
@@ -21,11 +24,13 @@ pub enum Theme {
     Questions,
     /// Plans that choose the least value among many solutions.
     Offcuts,
+    /// Plans that divide lengths.
+    Panels,
     /// Hardly any plans.
     Bare,
 }
 
-pub const THEMES: [(Theme, usize); 8] = [
+pub const THEMES: [(Theme, usize); 9] = [
     (Theme::Mixed, 6),
     (Theme::Tower, 4),
     (Theme::Racks, 3),
@@ -33,6 +38,7 @@ pub const THEMES: [(Theme, usize); 8] = [
     (Theme::Search, 3),
     (Theme::Questions, 3),
     (Theme::Offcuts, 6),
+    (Theme::Panels, 6),
     (Theme::Bare, 1),
 ];
 
@@ -40,8 +46,8 @@ pub const THEMES: [(Theme, usize); 8] = [
 struct Shape {
     plans: (usize, usize),
     beliefs: (usize, usize),
-    /// Weights of the five kinds of branches.
-    branches: [usize; 5],
+    /// Weights of the six kinds of branches.
+    branches: [usize; 6],
     /// Share of plans whose context is one empty alternative.
     plain_context: usize,
     /// Share of plans whose maintenance is one empty alternative.
@@ -57,7 +63,7 @@ fn shape(theme: Theme) -> Shape {
     let mixed = Shape {
         plans: (1, 32),
         beliefs: (0, 20),
-        branches: [2, 2, 3, 3, 3],
+        branches: [2, 2, 3, 3, 3, 1],
         plain_context: 65,
         plain_maintenance: 75,
         goal_plans: 45,
@@ -67,12 +73,13 @@ fn shape(theme: Theme) -> Shape {
     };
     match theme {
         Theme::Mixed => mixed,
-        Theme::Tower => Shape { plans: (2, 12), branches: [1, 1, 1, 8, 5], plain_context: 90, goal_plans: 75, ..mixed },
-        Theme::Racks => Shape { plans: (2, 12), branches: [1, 1, 9, 1, 1], plain_context: 85, goal_plans: 20, ..mixed },
-        Theme::Crowded => Shape { beliefs: (57, 64), branches: [8, 2, 2, 2, 1], most_actions: 4, ..mixed },
+        Theme::Tower => Shape { plans: (2, 12), branches: [1, 1, 1, 8, 5, 1], plain_context: 90, goal_plans: 75, ..mixed },
+        Theme::Racks => Shape { plans: (2, 12), branches: [1, 1, 9, 1, 1, 1], plain_context: 85, goal_plans: 20, ..mixed },
+        Theme::Crowded => Shape { beliefs: (57, 64), branches: [8, 2, 2, 2, 1, 1], most_actions: 4, ..mixed },
         Theme::Search => Shape { beliefs: (24, 64), plain_context: 8, plain_maintenance: 50, most_states: 4, ..mixed },
-        Theme::Questions => Shape { beliefs: (8, 30), branches: [1, 1, 1, 2, 9], negative: 40, ..mixed },
+        Theme::Questions => Shape { beliefs: (8, 30), branches: [1, 1, 1, 2, 9, 1], negative: 40, ..mixed },
         Theme::Offcuts => Shape { plans: (0, 6), beliefs: (4, 40), negative: 8, ..mixed },
+        Theme::Panels => Shape { plans: (0, 4), beliefs: (4, 40), branches: [1, 1, 1, 3, 3, 3], negative: 8, ..mixed },
         Theme::Bare => Shape { plans: (0, 2), most_states: 16, most_actions: 4, ..mixed },
     }
 }
@@ -94,6 +101,9 @@ impl Words {
         if random.percent(15) {
             facts.extend([0, 32_767]);
             constants.extend([0, 65_527]);
+        }
+        if theme == Theme::Panels {
+            constants.extend(panels::LENGTHS);
         }
         Words { facts, told: vec![20, 21, 22], goals: (40..40 + random.between(2, 6) as u16).collect(), constants, negative }
     }
@@ -140,6 +150,7 @@ pub fn library(random: &mut Random, theme: Theme) -> (Library, Words) {
         Theme::Tower => tower(random, &words),
         Theme::Crowded => vec![filler(&words)],
         Theme::Offcuts => offcuts::plans(random, &words),
+        Theme::Panels => panels::plans(random, &words),
         _ => vec![],
     };
     let count = random.between(shape.plans.0, shape.plans.1);
@@ -284,6 +295,7 @@ fn states(random: &mut Random, words: &Words, shape: &Shape) -> Vec<Vec<Branch>>
 fn step(random: &mut Random, words: &Words, shape: &Shape) -> (u16, Literal) {
     let kind = random.weighted(&shape.branches) as u16;
     let literal = match kind {
+        DIVIDE => return (kind, panels::division(random, words).0),
         EXTERNAL => words.bound(random, &[60, 61, 62]),
         ACHIEVE | QUERY if random.percent(65) => words.bound(random, &words.goals),
         QUERY => words.open(random, &words.facts, 4, 60),

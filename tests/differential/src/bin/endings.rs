@@ -208,8 +208,9 @@ fn body(random: &mut Random) -> Vec<Vec<Branch>> {
             2 if random.percent(70) => next - 1,
             _ => *random.pick(&room),
         };
-        let kind = random.below(5) as u16;
-        states[parent].push(Branch { kind, literal: [9, V0, 0, 0], next: next as u16 });
+        let kind = random.below(6) as u16;
+        // for a division: whole panels to V2, the offcut to V1
+        states[parent].push(Branch { kind, literal: [10, V0, 5, 0], next: next as u16 });
         states.push(vec![]);
     }
     states

@@ -10,6 +10,7 @@ use reference::refusal::Refusal;
 use reference::state::{Event, Instance, Origin, Place};
 use std::collections::BTreeMap;
 
+mod division;
 mod least;
 
 /// The letters of the journal and the refusals by number.
@@ -38,6 +39,7 @@ pub const DEPTHS: &[&str] = &[
     "S achieve held",
     "S query held",
     "S query binds",
+    "S divide",
     "S outcome",
     "B add not ground",
     "B add full",
@@ -48,6 +50,7 @@ pub const DEPTHS: &[&str] = &[
     "B query not ground",
     "B query opposite",
     "B query at 8",
+    "B divide",
     "B outcome",
     "G achieve",
     "G query",
@@ -143,6 +146,7 @@ impl Coverage {
             ("refusals", REFUSALS.to_vec()),
             ("depths", DEPTHS.to_vec()),
             ("least values", least::NAMES.to_vec()),
+            ("divisions", division::NAMES.to_vec()),
             ("damaged libraries", on_draft.chain(on_bytes).chain(unknown).chain(["no file"]).collect()),
             ("unreadable lines", lines.chain(["one byte of a line changed"]).collect()),
         ]
@@ -214,13 +218,12 @@ impl Coverage {
                 self.note(if cycle { missed(before, place, after) } else { "B outcome" });
             }
             Deed::Done(place, _) => self.done(before, place, after),
-            Deed::Posted(place) => {
-                self.note("G");
-                let achieve = branch(before, place, after).is_some_and(|(kind, ..)| kind == BranchKind::Achieve);
-                self.note(if achieve { "G achieve" } else { "G query" });
-            }
+            Deed::Posted(place) => self.posted(before, place, after),
             Deed::Succeeded(id) => self.ended(before, id, true, after),
             Deed::Failed(id) => self.ended(before, id, false, after),
+        }
+        if cycle {
+            self.tried(before, answer.deed, after);
         }
         self.changed(before, answer);
     }
@@ -228,6 +231,12 @@ impl Coverage {
     fn done(&mut self, before: &Watch, place: Place, after: &Agent) {
         self.note("D");
         self.least_shown(before, place, after);
+    }
+
+    fn posted(&mut self, before: &Watch, place: Place, after: &Agent) {
+        self.note("G");
+        let achieve = branch(before, place, after).is_some_and(|(kind, ..)| kind == BranchKind::Achieve);
+        self.note(if achieve { "G achieve" } else { "G query" });
     }
 
     fn changed(&mut self, before: &Watch, answer: &Answer) {
@@ -273,8 +282,10 @@ impl Coverage {
             self.note_if(at_end, "F maintenance at an end");
             self.note_if(plan.least.is_some(), "least: F");
         }
+        let actions = if succeeded { &plan.on_success } else { &plan.on_failure };
+        self.results_listed(instance, plan, actions);
         let mut beliefs = before.beliefs.clone();
-        for action in if succeeded { &plan.on_success } else { &plan.on_failure } {
+        for action in actions {
             let (Action::Add(literal) | Action::Remove(literal)) = action;
             let Some(fact) = literal.ground(&instance.bindings) else {
                 self.note("list action not ground");
@@ -317,6 +328,7 @@ fn stepped(before: &Watch, place: Place, changed: bool, after: &Agent) -> &'stat
         Some((BranchKind::Remove, ..)) if changed => "S remove",
         Some((BranchKind::Remove, ..)) => "S remove absent",
         Some((BranchKind::Achieve, ..)) => "S achieve held",
+        Some((BranchKind::Divide(_), ..)) => "S divide",
         Some((BranchKind::Query, true, _)) => "S query held",
         _ => "S query binds",
     }
@@ -332,6 +344,7 @@ fn missed(before: &Watch, place: Place, after: &Agent) -> &'static str {
         Some((BranchKind::Achieve, ..)) => "B achieve at 8",
         Some((BranchKind::Query, false, _)) => "B query not ground",
         Some((BranchKind::Query, true, true)) => "B query opposite",
+        Some((BranchKind::Divide(_), ..)) => "B divide",
         _ => "B query at 8",
     }
 }

@@ -1,9 +1,10 @@
 -- `formed::instances::is_status` meets its contract: the status decides which branch is asked for.
 use Prim.Native.Nat.{_<_, _≤_}
 use mathlib.Core.Path.{ap, _∙_}
-use lib.Dec.{eqb, leb}
+use lib.Dec.{eqb}
 use borrow.Author.Tests.{le-ltb}
 use Rattle.library.specs.declared.Branch.{Branch}
+use Rattle.model.specs.Instance.{isGoalKind}
 use Rattle.model.specs.WellFormed.{isStatus}
 use Rattle.formed.proofs.RuleLaws.{waits, sleeps}
 use borrow.Author.Needs.{needs}
@@ -34,15 +35,22 @@ returns-2 c = let none : (c .before .before .before .before .before .args) .x .t
 branch-requires-2 : tie.Need-branch-requires-2
 branch-requires-2 c κs = search needs
 
+is-goal-kind-requires : tie.Need-is-goal-kind-requires
+is-goal-kind-requires c κs = search needs
+
 returns-3 : tie.Need-returns-3
 unfolding isStatus
 returns-3 c = rw ((c .enum-told) .given .1)
 
 returns-4 : tie.Need-returns-4
-returns-4 c = let some : 0 < (c .before .before .before .before .before .before .before .args) .x .tried = omega arith in ap (λ (b : Branch). eqb (b .kind) 2) ((c .before .branch) .ensures) ∙ waits ((c .before .before .before .before .before .before .before .args) .x .tried) _ ((c .before .before .before .before .before .before .before .args) .x .status) ((c .before .before .before .before .enum-told2) .given .1) some
+returns-4 c =
+    let some : 0 < (c .before .before .before .before .before .before .before .args) .x .tried = omega arith in
+    ap (λ (b : Branch). eqb (b .kind) 2) ((c .before .branch) .ensures) ∙ waits ((c .before .before .before .before .before .before .before .args) .x .tried) _ ((c .before .before .before .before .before .before .before .args) .x .status) ((c .before .before .before .before .enum-told2) .given .1) some
 
 returns-5 : tie.Need-returns-5
-returns-5 c = let some : 0 < (c .before .before .before .before .before .before .before .args) .x .tried = omega arith in ap (λ (b : Branch). leb 3 (b .kind)) ((c .before .branch2) .ensures) ∙ sleeps ((c .before .before .before .before .before .before .before .args) .x .tried) _ ((c .before .before .before .before .before .before .before .args) .x .status) ((c .before .before .before .before .enum-told3) .given .1) some
+returns-5 c =
+    let some : 0 < (c .before .before .before .before .before .before .before .args) .x .tried = omega arith in
+    (c .is-goal-kind) .ensures ∙ ap (λ (b : Branch). isGoalKind (b .kind)) ((c .before .branch2) .ensures) ∙ sleeps ((c .before .before .before .before .before .before .before .args) .x .tried) _ ((c .before .before .before .before .before .before .before .args) .x .status) ((c .before .before .before .before .enum-told3) .given .1) some
 
 pub is-status-spec : {M : Type 1} → statement M
 is-status-spec =
@@ -55,6 +63,7 @@ is-status-spec =
     enum-told-3
     returns-2
     branch-requires-2
+    is-goal-kind-requires
     returns-3
     returns-4
     returns-5)
