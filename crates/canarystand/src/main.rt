@@ -70,7 +70,7 @@ fn read_library(file: &mut [u8]) -> usize
 
 // Writes to standard output, and tells whether it could.
 fn print(bytes: &[u8]) -> bool {
-    let written = transfer::write_all(STDOUT_FILENO, bytes);
+    let written = transfer::write_all(STDOUT_FILENO, bytes) == bytes.len();
     if !written {
         os::fail(b"canarystand: standard output");
     }

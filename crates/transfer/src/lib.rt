@@ -109,17 +109,19 @@ fn try_write(fd: i32, bytes: &[u8]) -> Moved
     settled(outcome)
 }
 
-// Writes all of the bytes, and tells whether it could.
-pub fn write_all(fd: i32, bytes: &[u8]) -> bool {
+// Writes the bytes, and tells how many it could: all of them, unless a write fails for good.
+pub fn write_all(fd: i32, bytes: &[u8]) -> usize
+    ensures { λ r. ⌜ r ≤ length (now (bytes .entry)) ⌝ }
+{
     let mut done: usize = 0;
     let mut turns = u64::MAX;
     while turns > 0 && done < bytes.len() {
         let put = try_write(fd, &bytes[done..]);
         if put.failed && !put.again {
-            return false;
+            return done;
         }
         done += put.count;
         turns -= 1;
     }
-    done == bytes.len()
+    done
 }

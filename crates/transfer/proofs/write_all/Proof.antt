@@ -28,7 +28,7 @@ try-write-requires : tie.Need-try-write-requires Inv-loop μ-loop
 try-write-requires c κs = search needs
 
 returns : tie.Need-returns Inv-loop μ-loop
-returns c = search needs
+returns c = omega arith
 
 add-done : tie.Need-add-done Inv-loop μ-loop
 add-done c = omega (arith, (c .before .before .try-write) .ensures)
@@ -43,7 +43,10 @@ loop-again : tie.Need-loop-again Inv-loop μ-loop
 loop-again c = omega (arith, (c .before .before .try-write) .ensures)
 
 returns-2 : tie.Need-returns-2 Inv-loop μ-loop
-returns-2 c = search needs
+returns-2 c = omega arith
+
+returns-3 : tie.Need-returns-3 Inv-loop μ-loop
+returns-3 c = omega arith
 
 pub write-all-spec : {M : Type 1} → statement M
 write-all-spec =
@@ -61,4 +64,5 @@ write-all-spec =
     sub-turns
     loop-less
     loop-again
-    returns-2)
+    returns-2
+    returns-3)
