@@ -4,4 +4,3 @@ pub mod EnvLaws
 pub mod EntryLaws
 pub mod MatchLaws
 pub mod DivideLaws
-pub mod Cases

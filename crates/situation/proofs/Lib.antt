@@ -6,4 +6,3 @@ pub mod ChoiceLaws
 pub mod SolutionLaws
 pub mod ChosenLaws
 pub mod LeastLaws
-pub mod Cases
