@@ -9,7 +9,8 @@ use Rattle.belief.specs.Table.{add, remove, isTable}
 use Rattle.change.specs.declared.Changed.{Changed}
 
 -- one change, by whether its literal is ground and whether it removes. A literal that is not ground is passed over here;
--- an add of a held literal, or one to 64 beliefs that takes no opposite out, and a removal of an absent one leave the table as it is (belief/specs/Table)
+-- an add of a held literal, or one to 64 beliefs that takes no opposite out, and a removal of an absent one leave the table as it is
+-- (belief/specs/Table)
 abbrev pub stepBy : Bool → Bool → Beliefs → Literal → Beliefs
 stepBy false removes table l = table
 stepBy true true table l = remove table l .table

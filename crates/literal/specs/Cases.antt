@@ -1,12 +1,9 @@
 -- Cases of request 11: what a divide binds, and where it is missed.
 use Prim.Native.Nat.{ℕ, _+_, _*_}
-use mathlib.Core.Path.{_≡_, refl}
 use mathlib.Core.Option.{Option, none, some}
-use mathlib.Core.List.{List, [], _∷_, map}
+use mathlib.Core.List.{List, [], _∷_}
 use Rattle.literal.specs.declared.Literal.{Literal}
 use Rattle.literal.specs.declared.Env.{Env}
-use Rattle.literal.specs.Environment.{value, bind}
-use Rattle.literal.specs.Divide.{canDivide, divide}
 
 -- a divide of two terms into Vq and Vr
 abbrev into : ℕ → ℕ → ℕ → ℕ → Literal
@@ -46,8 +43,3 @@ divideCases =
     ∷ record { literal = into 0 1 65528 5; before = valuesAre 17 65529 1 1; after = none }
     ∷ record { literal = into 0 1 17 65529; before = lengthsAre 1 1; after = none }
     ∷ []
-
--- every case of the table has the environment that it states
-pub divide-cases : map (λ c. divide (c .literal) (c .before)) divideCases ≡ map (λ c. c .after) divideCases
-unfolding value bind canDivide divide
-divide-cases = refl

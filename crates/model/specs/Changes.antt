@@ -27,7 +27,8 @@ takesEffect beliefs c = cond (c .removes) (holds beliefs (c .literal)) (not (hol
 
 -- what an add takes out first: its opposite, where that is held
 unfoldable pub clearing : List Literal → Change → List Change
-clearing beliefs c = when (not (c .removes) && holds beliefs (opposite (c .literal))) (record { removes = true; literal = opposite (c .literal) })
+clearing beliefs c =
+    when (not (c .removes) && holds beliefs (opposite (c .literal))) (record { removes = true; literal = opposite (c .literal) })
 
 -- the change itself where it takes effect, behind what it takes out; else none
 unfoldable pub effective : List Literal → Change → List Change

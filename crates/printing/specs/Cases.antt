@@ -69,7 +69,8 @@ longest = lit 65535 65535 65535 65535
 
 abbrev pub longestRow : Row
 longestRow =
-    row (Done 65535 65535 65535 longest) (adds longest ∷ removes longest ∷ adds longest ∷ removes longest ∷ adds longest ∷ removes longest ∷ adds longest ∷ removes longest ∷ [])
+    row (Done 65535 65535 65535 longest)
+    (adds longest ∷ removes longest ∷ adds longest ∷ removes longest ∷ adds longest ∷ removes longest ∷ adds longest ∷ removes longest ∷ [])
     (Text._++_ "D 65535 65535 65535 -32767 65535 65535 65535 a -32767 65535 65535 65535 r -32767 65535 65535 65535"
     (Text._++_ " a -32767 65535 65535 65535 r -32767 65535 65535 65535 a -32767 65535 65535 65535 r -32767 65535 65535 65535"
     " a -32767 65535 65535 65535 r -32767 65535 65535 65535\n"))

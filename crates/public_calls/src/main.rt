@@ -2,6 +2,7 @@
 use agent::Replied;
 use agent::calls;
 use belief::Beliefs;
+use libc::STDIN_FILENO;
 use libc::STDOUT_FILENO;
 use literal::Literal;
 use load::Agent;
@@ -96,73 +97,24 @@ fn journal(library: &[u8], worked: bool) {
     reported(b, 3, 5);
 }
 
+// Plan part and its companion, of the library's one plan and of one that it has not.
+fn parts(library: &[u8]) {
+    let part = accepted::plan_part(library, 0);
+    say(part.len() == 50 && accepted::plan_part_refusal(library, 0) == 0);
+    let nothing = accepted::plan_part(library, 1);
+    say(nothing.len() == 0 && accepted::plan_part_refusal(library, 1) == 11);
+}
+
+// Document 01's library comes from standard input.
 fn main() {
-    let library = [
-        1,
-        0,
-        0,
-        0,
-        8,
-        0,
-        50,
-        0,
-        0,
-        0,
-        1,
-        0,
-        248,
-        255,
-        0,
-        0,
-        0,
-        0,
-        1,
-        0,
-        0,
-        0,
-        1,
-        0,
-        0,
-        0,
-        1,
-        0,
-        1,
-        0,
-        1,
-        0,
-        248,
-        255,
-        0,
-        0,
-        0,
-        0,
-        0,
-        0,
-        2,
-        0,
-        1,
-        0,
-        2,
-        0,
-        9,
-        0,
-        248,
-        255,
-        0,
-        0,
-        0,
-        0,
-        1,
-        0,
-        0,
-        0,
-    ];
-    journal(&library, true);
-    journal(&library, false);
-    let none = opened(&library[..3]);
-    cycled(none);
-    let part = accepted::plan_part(&library, 0);
-    say(part.len() == 50 && accepted::plan_part_refusal(&library, 0) == 0);
-    let nothing = accepted::plan_part(&library, 1);
-    say(nothing.len() == 0 && accepted::plan_part_refusal(&library, 1) == 11);
+    let mut input = io::large_buffer();
+    let n = io::read_full(STDIN_FILENO, &mut input);
+    if n <= input.len() {
+        let library = &input[..n];
+        journal(library, true);
+        journal(library, false);
+        let none = opened(b"\x00\x00\x00");
+        cycled(none);
+        parts(library);
+    }
 }

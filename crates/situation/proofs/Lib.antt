@@ -6,3 +6,4 @@ pub mod ChoiceLaws
 pub mod SolutionLaws
 pub mod ChosenLaws
 pub mod LeastLaws
+pub mod Cases

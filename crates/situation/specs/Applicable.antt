@@ -1,4 +1,5 @@
--- Applicable plans and the choice of one (document 01, "Cycle"; document 02, request 12; dMARS 8.2, relplans and applplans; 8.1, planselect).
+-- Applicable plans and the choice of one
+-- (document 01, "Cycle"; document 02, request 12; dMARS 8.2, relplans and applplans; 8.1, planselect).
 -- Departs from dMARS: library order chooses, then the first solution or the least by the plan's mark (request 12); plans that failed for
 -- an event are left out by number, where 8.3 (NewPlanInst) leaves out failed plan instances, for goal events alone.
 use Prim.Native.Nat.{ℕ, suc}

