@@ -10,8 +10,8 @@ use lib.Seq.{take-length}
 use Rattle.model.specs.State.{Call, viewResult}
 use Rattle.state.specs.declared.State.{State}
 use Rattle.printing.specs.LineText.{resultText, mostLine, fits}
-use Rattle.printing.specs.Writing.{Wrote}
-use Rattle.printing.proofs.WritingLaws.{nothing, then as write-then}
+use Rattle.writing.specs.Writing.{Wrote}
+use Rattle.writing.proofs.WritingLaws.{nothing, then as write-then}
 use Rattle.reading.specs.declared.Spoken.{Spoken}
 use Rattle.reading.specs.Spoken.{meaning}
 use Rattle.stream.specs.declared.Carry.{Carry}

@@ -16,7 +16,7 @@ use Rattle.model.specs.Calls.{isRefusal, callBy}
 use Rattle.state.specs.declared.State.{State}
 use Rattle.state.specs.View.{viewState, countsFit}
 use Rattle.printing.specs.LineText.{resultText, mostLine, fits}
-use Rattle.printing.specs.Writing.{Wrote}
+use Rattle.writing.specs.Writing.{Wrote}
 use Rattle.stream.specs.declared.Carry.{Carry}
 use Rattle.stream.specs.Carried.{begun}
 use Rattle.stream.specs.Calls.{callsFrom, lineAfter}

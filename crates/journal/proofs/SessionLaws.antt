@@ -15,8 +15,8 @@ use Rattle.stream.specs.Carried.{begun}
 use Rattle.stream.specs.Calls.{atEnd, callsFrom}
 use Rattle.stream.proofs.EveryLine.{calls-lines}
 use Rattle.printing.specs.LineText.{newline, resultText}
-use Rattle.printing.specs.Writing.{Wrote}
-use Rattle.printing.proofs.WritingLaws.{whole}
+use Rattle.writing.specs.Writing.{Wrote}
+use Rattle.writing.proofs.WritingLaws.{whole}
 use Rattle.load.specs.declared.Agent.{Agent}
 use Rattle.agent.specs.declared.feed.Fed.{Fed}
 use Rattle.agent.specs.Feed.{unreadable, Journal, start, unread, answered}

@@ -1,5 +1,4 @@
 pub mod DecimalLaws
-pub mod WritingLaws
 pub mod TextLaws
 pub mod TryLaws
 pub mod LineLaws

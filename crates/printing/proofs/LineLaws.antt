@@ -1,4 +1,4 @@
--- Laws of lines: the only newline of a line is its last byte, and a line that is printed is no longer than the longest.
+-- Laws of lines: the only newline of a line is its last byte, a line that is printed is no longer than the longest, and without room none is.
 use Prim.Native.Nat.{ℕ, zero, suc, _+_, _/_, _%_, _≤_, _<_}
 use native.Mathlib.Omega.{arith}
 use mathlib.Core.Path.{_≡_, refl, sym}
@@ -18,7 +18,7 @@ use Rattle.model.specs.State.{Result}
 use Rattle.model.specs.Lines.{Letter, T, I, N, U, M, S, B, D, G, E, F, X, Field, number, e, g, literal, Line}
 use Rattle.printing.specs.Decimal.{lastDigit, decimal}
 use Rattle.printing.specs.LineText.{newline, letterByte, signByte, changeByte, numberText, literalText, fieldText, changeText, lineText, resultText, IsLine, mostLine}
-use Rattle.printing.specs.Writing.{Prints}
+use Rattle.printing.specs.Prints.{Prints}
 use Rattle.printing.proofs.DecimalLaws.{side, decimal-small, decimal-more}
 
 -- ---- No newline in a part
@@ -120,3 +120,12 @@ one-newline line = record {
 pub printed-most : {before after : List ℕ} {at next : ℕ} {result : Result} → Prints before after at next result → at + mostLine ≤ length before
     → length (resultText result) ≤ mostLine
 printed-most p room = omega (arith, p .line room .past, p .line room .within)
+
+-- without room nothing is printed
+pub unprinted : {bytes : List ℕ} {at : ℕ} {result : Result} → length bytes < at + mostLine → Prints bytes bytes at at result
+unprinted full = record {
+  line = λ room. absurd (omega arith);
+  fit = λ room. absurd (omega arith);
+  unwritten = λ short. refl;
+  unmoved = λ short. refl;
+}

@@ -11,7 +11,7 @@ use Rattle.model.specs.declared.Answer.the-variants.{Taken, Idle, Dropped, Unme
 use Rattle.model.specs.State.{Result}
 use Rattle.model.specs.Lines.{Letter, T, I, N, U, M, S, B, D, G, E, F, X, Field, number, e, g, literal, letterOf, fieldsOf, lineOf}
 use Rattle.printing.specs.LineText.{resultText, mostLine, fits}
-use Rattle.printing.specs.Writing.{Prints}
+use Rattle.printing.specs.Prints.{Prints}
 use Rattle.printing.proofs.LineInjective.{line-injective}
 
 numberIn : Field → ℕ

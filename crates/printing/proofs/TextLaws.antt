@@ -16,8 +16,8 @@ use Rattle.model.specs.declared.Answer.{Answer}
 use Rattle.model.specs.declared.Answer.the-variants.{Taken, Idle, Dropped, Unmet, MadeExternal, MadeGoal, Stepped, Missed, Done, Posted, Succeeded, Failed, Refused}
 use Rattle.model.specs.Lines.{number, letterOf, fieldsOf}
 use Rattle.printing.specs.LineText.{space, numberText, literalText, fieldText, changeText, answerText, fitsChange, mostChange}
-use Rattle.printing.specs.Writing.{Wrote}
-use Rattle.printing.proofs.WritingLaws.{then, widen, written}
+use Rattle.writing.specs.Writing.{Wrote}
+use Rattle.writing.proofs.WritingLaws.{then, widen, written}
 
 -- ---- The letter and its fields
 

@@ -1,4 +1,4 @@
 pub mod Decimal
 pub mod LineText
-pub mod Writing
+pub mod Prints
 pub mod Cases

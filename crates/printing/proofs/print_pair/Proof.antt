@@ -3,7 +3,7 @@ use borrow.Author.Needs.{needs}
 use native.Mathlib.Omega.{arith}
 use mathlib.Core.Path.{refl}
 use Rattle.printing.specs.LineText.{pairText}
-use Rattle.printing.proofs.WritingLaws.{then}
+use Rattle.writing.proofs.WritingLaws.{then}
 use Rattle.printing.proofs.print_pair.Statement.{statement}
 use Rattle.printing.proofs.print_pair.Tie as tie
 

@@ -3,7 +3,8 @@ use borrow.Author.Needs.{needs}
 use native.Mathlib.Omega.{arith}
 use Rattle.lists.proofs.BoolLaws.{and-both}
 use Rattle.printing.specs.LineText.{answerText, lineText, fitsLine}
-use Rattle.printing.proofs.WritingLaws.{then, unprinted}
+use Rattle.writing.proofs.WritingLaws.{then}
+use Rattle.printing.proofs.LineLaws.{unprinted}
 use Rattle.printing.proofs.print_result.Statement.{statement}
 use Rattle.printing.proofs.print_result.Tie as tie
 

@@ -4,7 +4,7 @@ use native.Mathlib.Omega.{arith}
 use lib.Dec.{lit≤}
 use Rattle.lists.specs.Search.{all}
 use Rattle.model.specs.Lines.{fieldsOf}
-use Rattle.printing.proofs.WritingLaws.{then, widen, written}
+use Rattle.writing.proofs.WritingLaws.{then, widen, written}
 use Rattle.printing.proofs.TextLaws.{taken, idle, dropped, unmet, made-external, made-goal, succeeded, failed, refused}
 use Rattle.printing.proofs.TryLaws.{tries}
 use Rattle.printing.proofs.put_answer.Statement.{statement}

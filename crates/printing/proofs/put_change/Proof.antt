@@ -1,6 +1,6 @@
 -- `printing::put_change` meets its contract: the letter, then the literal.
 use borrow.Author.Needs.{needs}
-use Rattle.printing.proofs.WritingLaws.{then}
+use Rattle.writing.proofs.WritingLaws.{then}
 use Rattle.printing.specs.LineText.{changeText}
 use Rattle.printing.proofs.put_change.Statement.{statement}
 use Rattle.printing.proofs.put_change.Tie as tie

@@ -9,8 +9,8 @@ use Rattle.lists.specs.Counts.{each}
 use Rattle.lists.specs.Search.{all}
 use Rattle.lists.proofs.ArrayLaws.{length-mapped}
 use Rattle.printing.specs.LineText.{changeText, fitsChange, mostChange}
-use Rattle.printing.specs.Writing.{Wrote}
-use Rattle.printing.proofs.WritingLaws.{widen, nothing}
+use Rattle.writing.specs.Writing.{Wrote}
+use Rattle.writing.proofs.WritingLaws.{widen, nothing}
 use Rattle.printing.proofs.TextLaws.{next-change, next-fit}
 use Rattle.printing.proofs.put_changes.Statement.{statement}
 use Rattle.printing.proofs.put_changes.Tie as tie

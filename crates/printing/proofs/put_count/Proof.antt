@@ -1,6 +1,6 @@
 -- `printing::put_count` meets its contract: a space, then the number.
 use borrow.Author.Needs.{needs}
-use Rattle.printing.proofs.WritingLaws.{then}
+use Rattle.writing.proofs.WritingLaws.{then}
 use Rattle.printing.proofs.put_count.Statement.{statement}
 use Rattle.printing.proofs.put_count.Tie as tie
 

@@ -3,7 +3,7 @@ use borrow.Author.Needs.{needs}
 use native.Mathlib.Omega.{arith}
 use lib.Dec.{lit≤}
 use Rattle.printing.proofs.DecimalLaws.{from-hundreds, five-digits}
-use Rattle.printing.proofs.WritingLaws.{then, widen, written}
+use Rattle.writing.proofs.WritingLaws.{then, widen, written}
 use Rattle.printing.proofs.put_decimal.Statement.{statement}
 use Rattle.printing.proofs.put_decimal.Tie as tie
 

@@ -1,7 +1,7 @@
 -- `printing::put_four` meets its contract: two digits, then two.
 use borrow.Author.Needs.{needs}
 use Rattle.printing.proofs.DecimalLaws.{four-digits}
-use Rattle.printing.proofs.WritingLaws.{then, written}
+use Rattle.writing.proofs.WritingLaws.{then, written}
 use Rattle.printing.proofs.put_four.Statement.{statement}
 use Rattle.printing.proofs.put_four.Tie as tie
 

@@ -2,7 +2,7 @@
 use borrow.Author.Needs.{needs}
 use borrow.Author.Tests.{lt-ltb}
 use native.Mathlib.Omega.{arith}
-use Rattle.printing.proofs.WritingLaws.{then}
+use Rattle.writing.proofs.WritingLaws.{then}
 use Rattle.printing.specs.LineText.{literalText}
 use Rattle.printing.proofs.put_literal.Statement.{statement}
 use Rattle.printing.proofs.put_literal.Tie as tie

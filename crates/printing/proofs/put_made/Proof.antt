@@ -1,6 +1,6 @@
 -- `printing::put_made` meets its contract: its parts, one after the other.
 use borrow.Author.Needs.{needs}
-use Rattle.printing.proofs.WritingLaws.{then}
+use Rattle.writing.proofs.WritingLaws.{then}
 use Rattle.printing.proofs.put_made.Statement.{statement}
 use Rattle.printing.proofs.put_made.Tie as tie
 

@@ -1,6 +1,6 @@
 -- `printing::put_number` meets its contract: the byte, then the number.
 use borrow.Author.Needs.{needs}
-use Rattle.printing.proofs.WritingLaws.{then}
+use Rattle.writing.proofs.WritingLaws.{then}
 use Rattle.printing.proofs.put_number.Statement.{statement}
 use Rattle.printing.proofs.put_number.Tie as tie
 

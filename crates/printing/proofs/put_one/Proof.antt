@@ -1,6 +1,6 @@
 -- `printing::put_one` meets its contract: the letter, then the number.
 use borrow.Author.Needs.{needs}
-use Rattle.printing.proofs.WritingLaws.{then, nothing}
+use Rattle.writing.proofs.WritingLaws.{then, nothing}
 use Rattle.printing.specs.LineText.{fieldText}
 use Rattle.printing.proofs.put_one.Statement.{statement}
 use Rattle.printing.proofs.put_one.Tie as tie

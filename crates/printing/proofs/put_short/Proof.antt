@@ -3,7 +3,7 @@ use borrow.Author.Needs.{needs}
 use lib.Dec.{lit≤}
 use mathlib.Core.Path.{sym}
 use Rattle.printing.proofs.DecimalLaws.{decimal-small, decimal-two}
-use Rattle.printing.proofs.WritingLaws.{widen, written}
+use Rattle.writing.proofs.WritingLaws.{widen, written}
 use Rattle.printing.proofs.put_short.Statement.{statement}
 use Rattle.printing.proofs.put_short.Tie as tie
 

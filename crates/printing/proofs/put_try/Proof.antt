@@ -3,7 +3,7 @@ use borrow.Author.Needs.{needs}
 use lib.Dec.{lit≤}
 use Rattle.lists.specs.Search.{all}
 use Rattle.model.specs.Lines.{fieldsOf}
-use Rattle.printing.proofs.WritingLaws.{then, widen, written}
+use Rattle.writing.proofs.WritingLaws.{then, widen, written}
 use Rattle.printing.proofs.TextLaws.{stepped, missed, done, posted}
 use Rattle.printing.proofs.TryLaws.{no-other}
 use Rattle.printing.proofs.put_try.Statement.{statement}

@@ -1,7 +1,7 @@
 -- `printing::put_two` meets its contract: a number below 100 has the two digits that division by ten gives.
 use borrow.Author.Needs.{needs}
 use Rattle.printing.proofs.DecimalLaws.{two-digits}
-use Rattle.printing.proofs.WritingLaws.{then, written}
+use Rattle.writing.proofs.WritingLaws.{then, written}
 use Rattle.printing.proofs.put_two.Statement.{statement}
 use Rattle.printing.proofs.put_two.Tie as tie
 

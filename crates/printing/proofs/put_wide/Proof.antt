@@ -2,7 +2,7 @@
 use borrow.Author.Needs.{needs}
 use lib.Dec.{lit≤}
 use Rattle.printing.proofs.DecimalLaws.{from-myriads, many-digits}
-use Rattle.printing.proofs.WritingLaws.{then, widen, written}
+use Rattle.writing.proofs.WritingLaws.{then, widen, written}
 use Rattle.printing.proofs.put_wide.Statement.{statement}
 use Rattle.printing.proofs.put_wide.Tie as tie
 

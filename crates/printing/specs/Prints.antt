@@ -1,18 +1,12 @@
--- What writing a text into a lent buffer makes of it, and what printing a result does (document 01, "Journal").
+-- What printing a result or two numbers does to a lent buffer (document 01, "Journal").
 use Prim.Native.Nat.{ℕ, _+_, _≤_, _<_}
 use mathlib.Core.Path.{_≡_}
 use mathlib.Core.Bool.{true}
 use mathlib.Core.List.{List}
 use lib.ListN.{length}
-use lib.Seq.{sets}
+use Rattle.writing.specs.Writing.{Wrote}
 use Rattle.model.specs.State.{Result}
 use Rattle.printing.specs.LineText.{resultText, mostLine, fits, pairText, mostPair}
-
--- the text, of at most `most` bytes, stands from `at` up to `next`, and every other byte is as it was
-pub record Wrote (most : ℕ) (before after : List ℕ) (at next : ℕ) (text : List ℕ) : Type 0 where
-  pub bytes : after ≡ sets before at text
-  pub past : next ≡ at + length text
-  pub within : next ≤ at + most
 
 -- what printing a result does to the buffer, and the place past what was written
 pub record Prints (before after : List ℕ) (at next : ℕ) (result : Result) : Type 0 where

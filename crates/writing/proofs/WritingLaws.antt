@@ -1,14 +1,12 @@
 -- Laws of writing: one text after the other, with a larger bound, or nothing; and what the whole buffer holds then.
-use Prim.Native.Nat.{ℕ, suc, _+_, _≤_, _<_}
+use Prim.Native.Nat.{ℕ, suc, _+_, _≤_}
 use native.Mathlib.Nat.{add-zero, add-suc, suc-add}
 use native.Mathlib.Omega.{arith}
 use mathlib.Core.Path.{_≡_, refl, sym, ap, _∙_}
 use mathlib.Core.List.{List, [], _∷_, _++_}
 use lib.ListN.{length, length-append, set, take, drop}
 use lib.Seq.{sets, sets-eq}
-use Rattle.model.specs.State.{Result}
-use Rattle.printing.specs.LineText.{mostLine}
-use Rattle.printing.specs.Writing.{Wrote, Prints}
+use Rattle.writing.specs.Writing.{Wrote}
 
 sets-append : (bytes : List ℕ) (i : ℕ) (s t : List ℕ) → sets (sets bytes i s) (i + length s) t ≡ sets bytes i (s ++ t)
 sets-append bytes i [] t = rw add-zero
@@ -40,12 +38,3 @@ pub whole : {m : ℕ} {before after : List ℕ} {at next : ℕ} {text : List ℕ
     → after ≡ take at before ++ text ++ drop next before
 whole {m} {before} {after} {at} {next} {text} room p =
     p .bytes ∙ sets-eq text before at (omega (arith, p .past, p .within)) ∙ ap (λ (k : ℕ). take at before ++ text ++ drop k before) (sym (p .past))
-
--- without room nothing is printed
-pub unprinted : {bytes : List ℕ} {at : ℕ} {result : Result} → length bytes < at + mostLine → Prints bytes bytes at at result
-unprinted full = record {
-  line = λ room. absurd (omega arith);
-  fit = λ room. absurd (omega arith);
-  unwritten = λ short. refl;
-  unmoved = λ short. refl;
-}
