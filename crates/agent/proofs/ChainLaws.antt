@@ -1,13 +1,10 @@
 -- Demand 3 over chains of contracts: every chain from a loaded agent is a run of the model.
 use Prim.Native.Nat.{ℕ, _≤_}
 use mathlib.Core.Path.{_≡_, refl, ap, sym, subst, subst⁻¹, _∙_}
-use mathlib.Core.Bool.{Bool, true, _&&_}
+use mathlib.Core.Bool.{Bool, true}
 use mathlib.Core.List.{List, map, map-map}
 use lib.ListN.{length, take}
-use lib.Dec.{leb, eqb}
-use borrow.Author.Tests.{le-leb, eq-eqb}
 use Rattle.lists.specs.Counts.{Every}
-use Rattle.lists.proofs.BoolLaws.{and-both}
 use Rattle.library.specs.Layout.{libraryOf, beliefsOf}
 use Rattle.accepted.specs.Refusal.{refusalOf}
 use Rattle.model.specs.State.{AgentState, Reply}
@@ -20,11 +17,12 @@ use Rattle.model.proofs.CallLaws.{promises}
 use Rattle.model.proofs.Demand3Proof.{chain-run, chain-demand-3, chain-never-ten}
 use Rattle.model.proofs.AcceptedLibrary.{acceptable, loaded-well-formed}
 use Rattle.state.specs.View.{viewState, countsFit}
-use Rattle.formed.specs.Formed.{isStateFormed, isFormed}
+use Rattle.formed.specs.Formed.{WellFormedState}
+use Rattle.formed.proofs.WellFormedLaws.{test-within, test-parts, test-passes}
 use Rattle.load.specs.declared.Agent.{Agent}
 use Rattle.load.specs.declared.Loaded.{Loaded}
-use Rattle.load.specs.Load.{bytesOf, Loads}
-use Rattle.agent.specs.Calls.{isWellFormedWith, isWellFormedAgent, viewReplied, Calls}
+use Rattle.load.specs.Load.{bytesOf, Loads, isWellFormedAgent}
+use Rattle.agent.specs.Calls.{viewReplied, Calls}
 use Rattle.agent.specs.Chain.{Link, Chain, start, then, entryOf, entriesOf}
 
 -- an agent that holds this library, accepted, in a well-formed state
@@ -34,13 +32,17 @@ pub record Held (bytes : List ℕ) (a : Agent) : Type 0 where
   pub fit : countsFit (a .state) ≡ true
   pub formed : isWellFormed (libraryOf bytes) (viewState (a .state)) ≡ true
 
+-- a well-formed agent holds its own library
+pub own-held : (a : Agent) → isWellFormedAgent a ≡ true → Held (bytesOf a) a
+own-held a e =
+    let w = test-parts (a .library) (a .length) (a .state) e in
+    record { size = test-within (a .library) (a .length) (a .state) e; bytes-are = refl; fit = w .fit; formed = w .formed }
+
 module _ (bytes : List ℕ) (accepted : refusalOf bytes ≡ 0) where
   pub held-formed : (a : Agent) → Held bytes a → isWellFormedAgent a ≡ true
-  unfolding isWellFormedWith isFormed isStateFormed
   held-formed a h =
-      let own = subst⁻¹ (λ (b : List ℕ). (eqb (refusalOf b) 0 && (countsFit (a .state) && isWellFormed (libraryOf b) (viewState (a .state)))) ≡ true) (h .bytes-are)
-      (and-both (eqb (refusalOf bytes) 0) _ (eq-eqb _ 0 accepted) (and-both (countsFit (a .state)) _ (h .fit) (h .formed))) in
-      and-both (leb (a .length) (length (a .library))) _ (le-leb _ _ (h .size)) own
+      test-passes (a .library) (a .length) (a .state) (h .size)
+      (subst⁻¹ (λ (b : List ℕ). WellFormedState b (a .state)) (h .bytes-are) (record { accepted = accepted; fit = h .fit; formed = h .formed }))
 
   -- a call's contract is the model's call
   pub held-call : (a : Agent) → Held bytes a → (link : Link) → Calls a (link .call) (link .given)

@@ -2,15 +2,12 @@
 use Prim.Native.Nat.{ℕ}
 use native.Mathlib.Omega.{arith}
 use mathlib.Core.Path.{_≡_, refl, ap, sym, subst, subst⁻¹, _∙_}
-use mathlib.Core.Bool.{Bool, true, false, _&&_}
+use mathlib.Core.Bool.{Bool, true, false}
 use mathlib.Core.Option.{Option, none, some}
 use mathlib.Core.List.{List, [], _∷_, _++_}
-use lib.Dec.{leb, eqb}
 use lib.ListN.{length}
-use borrow.Author.Tests.{eq-eqb}
-use Rattle.lists.proofs.BoolLaws.{both-ways, and-parts, and-both}
+use Rattle.lists.proofs.BoolLaws.{both-ways}
 use Rattle.library.specs.Layout.{libraryOf}
-use Rattle.accepted.specs.Refusal.{refusalOf}
 use Rattle.model.specs.declared.Answer.the-variants.{Refused}
 use Rattle.model.specs.State.{AgentState, Call, Result, Reply, viewResult}
 use Rattle.model.specs.Calls.{isRefusal, act, callBy, call}
@@ -19,17 +16,15 @@ use Rattle.model.proofs.CallLaws.{promises}
 use Rattle.model.proofs.AcceptedLibrary.{acceptable}
 use Rattle.state.specs.declared.State.{State}
 use Rattle.state.specs.View.{viewState, countsFit}
-use Rattle.formed.specs.Formed.{isStateFormed, isFormed}
+use Rattle.formed.specs.Formed.{WellFormedState}
+use Rattle.formed.proofs.WellFormedLaws.{test-within, test-parts, test-passes}
 use Rattle.printing.specs.LineText.{resultText, fits}
 use Rattle.steps.specs.declared.Acted.{Acted}
 use Rattle.load.specs.declared.Agent.{Agent}
 use Rattle.steps.specs.View.{viewActed, plainly}
 use Rattle.steps.specs.Gives.{Gives}
-use Rattle.load.specs.Load.{bytesOf}
-use Rattle.agent.specs.Cycle.{WellFormedState}
-use Rattle.agent.specs.Calls.{isWellFormedWith, isWellFormedAgent}
+use Rattle.load.specs.Load.{bytesOf, isWellFormedAgent}
 use Rattle.agent.specs.Feed.{respondBy, unreadable, refusalFor, Trusted, Responds, Runs, none-yet, then, inState, Journal, start, unread, answered}
-use Rattle.agent.proofs.CallsLaws.{test-parts}
 
 -- ---- One line
 
@@ -119,12 +114,9 @@ module _ (a : Agent) (bytes : List ℕ) where
   module _ (own : bytes ≡ bytesOf a) where
     -- the well-formed test of the agent, from its parts
     formed-again : isWellFormedAgent a ≡ true → (t : State) → WellFormedState bytes t → isWellFormedAgent (inState a t) ≡ true
-    unfolding isWellFormedWith isFormed isStateFormed
     formed-again e t w =
-        let within = and-parts (leb (a .length) (length (a .library))) _ e .0 in
-        let test = subst (λ (l : List ℕ). (eqb (refusalOf l) 0 && (countsFit t && isWellFormed (libraryOf l) (viewState t))) ≡ true) own
-        (and-both (eqb (refusalOf bytes) 0) _ (eq-eqb _ 0 (w .accepted)) (and-both (countsFit t) _ (w .fit) (w .formed))) in
-        and-both (leb (a .length) (length (a .library))) _ within test
+        test-passes (a .library) (a .length) t (test-within (a .library) (a .length) (a .state) e)
+        (subst (λ (l : List ℕ). WellFormedState l t) own w)
 
     -- on a well-formed agent
     runs-formed : isWellFormedAgent a ≡ true → WellFormedState bytes (a .state) → {calls : List (Option Call)} {text : List ℕ} {t : State}

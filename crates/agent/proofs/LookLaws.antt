@@ -35,7 +35,7 @@ use Rattle.steps.specs.Gives.{Replies, Gives}
 use Rattle.agent.specs.Turnable.{placed, Runnable, Turnable, Turns}
 use Rattle.steps.specs.Outcome.{toldStep, Awaits}
 use Rattle.steps.specs.Step.{applied}
-use Rattle.agent.specs.Cycle.{WellFormedState}
+use Rattle.formed.specs.Formed.{WellFormedState}
 use Rattle.agent.specs.Feed.{Trusted, Responds}
 use Rattle.agent.specs.Look.{viewed, mayTakeUp, Answers, unformed, unread, idle, unawaited, Looks, Looked, placeOf}
 use Rattle.agent.proofs.CycleLaws.{cycled-turn, cycled-idle}

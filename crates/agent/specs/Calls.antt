@@ -1,30 +1,15 @@
 -- What the calls of an agent give (document 01, "The three calls", "Who may cause which refusal").
-use Prim.Native.Nat.{ℕ, _≤_}
+use Prim.Native.Nat.{_≤_}
 use mathlib.Core.Path.{_≡_}
-use mathlib.Core.Bool.{Bool, true, _&&_}
-use mathlib.Core.List.{List}
-use lib.ListN.{length, take}
-use lib.Dec.{leb}
+use mathlib.Core.Bool.{true}
 use Rattle.library.specs.Layout.{libraryOf}
 use Rattle.model.specs.State.{mostChanges, Call, Reply, viewResult}
 use Rattle.model.specs.Calls.{callBy, isRefusal}
-use Rattle.state.specs.declared.State.{State}
 use Rattle.state.specs.View.{viewState, countsFit}
-use Rattle.formed.specs.Formed.{isFormed}
 use Rattle.steps.specs.declared.Acted.{Acted}
 use Rattle.load.specs.declared.Agent.{Agent}
+use Rattle.load.specs.Load.{bytesOf, isWellFormedAgent}
 use Rattle.agent.specs.declared.Replied.{Replied}
-use Rattle.load.specs.Load.{bytesOf}
-
--- ---- An agent
-
--- a library in the first bytes of an array is accepted, its length and every count are within their arrays,
--- and the state keeps every rule
-unfoldable pub isWellFormedWith : List ℕ → ℕ → State → Bool
-isWellFormedWith library size s = leb size (length library) && isFormed (take size library) s
-
-abbrev pub isWellFormedAgent : Agent → Bool
-isWellFormedAgent a = isWellFormedWith (a .library) (a .length) (a .state)
 
 -- the model's reply that an answer means
 abbrev pub viewReplied : Replied → Reply

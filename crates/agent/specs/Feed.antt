@@ -26,8 +26,8 @@ use Rattle.agent.specs.declared.Replied.{Replied}
 use Rattle.agent.specs.declared.feed.Fed.{Fed}
 use Rattle.agent.specs.declared.feed.Ran.{Ran}
 use Rattle.steps.specs.View.{viewActed}
-use Rattle.agent.specs.Cycle.{WellFormedState}
-use Rattle.agent.specs.Calls.{isWellFormedWith, Calls}
+use Rattle.formed.specs.Formed.{WellFormedState, isWellFormedWith}
+use Rattle.agent.specs.Calls.{Calls}
 
 -- ---- One line
 

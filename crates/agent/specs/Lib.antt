@@ -1,6 +1,5 @@
 pub mod TakeUp
 pub mod Turnable
-pub mod Cycle
 pub mod Calls
 pub mod Chain
 pub mod Feed

@@ -4,7 +4,7 @@ ghost use Rattle.model.specs.Cycle.{cycled};
 ghost use Rattle.state.specs.View.{viewState};
 ghost use Rattle.steps.specs.Gives.{Gives};
 ghost use Rattle.steps.specs.Step.{applied};
-ghost use Rattle.agent.specs.Cycle.{WellFormedState};
+ghost use Rattle.formed.specs.Formed.{WellFormedState};
 use crate::event;
 use crate::turn;
 use model::Answer;

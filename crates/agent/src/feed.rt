@@ -115,7 +115,7 @@ fn run_tested(
 ) -> Ran
     ensures { λ r. ⌜ RunsOn (now (library .entry)) length s carry (now (chunk .entry)) (now (out .entry)) (now (out .exit)) r ⌝ }
 {
-    if !respond::is_well_formed(library, length, s) {
+    if !formed::is_well_formed(library, length, s) {
         return run_lines(library, false, s, carry, chunk, out);
     }
     run_lines(&library[..length], true, s, carry, chunk, out)

@@ -2,7 +2,7 @@
 ghost use mathlib.Core.Path.{_≡_};
 ghost use lib.ListN.{take};
 ghost use Rattle.reading.specs.Spoken.{meaning};
-ghost use Rattle.agent.specs.Calls.{isWellFormedWith};
+ghost use Rattle.formed.specs.Formed.{isWellFormedWith};
 ghost use Rattle.agent.specs.Feed.{Trusted, Responds};
 ghost use Rattle.steps.specs.View.{stackAt};
 ghost use Rattle.steps.specs.Step.{applied};
@@ -47,23 +47,12 @@ pub(crate) fn act(
     }
 }
 
-// Whether the library in the first `length` bytes is accepted and the state well formed.
-pub(crate) fn is_well_formed(library: &[u8], length: usize, s: State) -> bool
-    ensures { λ r. ⌜ r ≡ isWellFormedWith (now (library .entry)) length s ⌝ }
-{
-    if library.len() < length {
-        return false;
-    }
-    let own = &library[..length];
-    formed::is_formed(own, s)
-}
-
 // A call, on the library in the first `length` bytes and a state: 10 first where they are not well formed.
 pub(crate) fn respond(library: &[u8], length: usize, s: State, spoken: Spoken) -> Acted
     ensures { λ r. ⌜ Responds (take length (now (library .entry))) (isWellFormedWith (now (library .entry)) length s) s
         (meaning spoken) r ⌝ }
 {
-    if !is_well_formed(library, length, s) {
+    if !formed::is_well_formed(library, length, s) {
         let refusal = look::refusal_of(spoken);
         return answer::acted(s, Answer::Refused(refusal));
     }

@@ -1,3 +1,4 @@
 pub mod ListLaws
 pub mod RuleLaws
 pub mod StateLaws
+pub mod WellFormedLaws

@@ -1,6 +1,6 @@
 // The test for well-formed states, rule by rule.
 ghost use mathlib.Core.Path.{_≡_};
-ghost use Rattle.formed.specs.Formed.{isStateFormed, isFormed};
+ghost use Rattle.formed.specs.Formed.{isStateFormed, isFormed, isWellFormedWith};
 use self::events::are_events;
 use self::instances::are_jobs;
 use self::served::all_served;
@@ -62,4 +62,15 @@ pub fn is_formed(library: &[u8], s: State) -> bool
         return false;
     }
     is_state_formed(library, s)
+}
+
+// Whether the library in the first `length` bytes is accepted and the state well formed.
+pub fn is_well_formed(library: &[u8], length: usize, s: State) -> bool
+    ensures { λ r. ⌜ r ≡ isWellFormedWith (now (library .entry)) length s ⌝ }
+{
+    if library.len() < length {
+        return false;
+    }
+    let own = &library[..length];
+    is_formed(own, s)
 }

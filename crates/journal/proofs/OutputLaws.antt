@@ -2,7 +2,7 @@
 use Prim.Native.Nat.{ℕ, _≤_, _<_}
 use native.Mathlib.Omega.{arith}
 use mathlib.Core.Path.{_≡_, refl, ap, sym, _∙_}
-use mathlib.Core.Bool.{Bool, true, false}
+use mathlib.Core.Bool.{Bool, false}
 use mathlib.Core.Option.{Option, none, some}
 use mathlib.Core.List.{List, [], _∷_, _++_, map}
 use lib.Dec.{eqb}
@@ -21,15 +21,15 @@ use Rattle.reading.specs.Call.{callOf}
 use Rattle.stream.specs.declared.Carry.{Carry}
 use Rattle.stream.specs.Lines.{lines}
 use Rattle.stream.specs.Carried.{begun}
+use Rattle.formed.proofs.WellFormedLaws.{test-parts}
 use Rattle.load.specs.declared.Agent.{Agent}
 use Rattle.load.specs.declared.Loaded.{Loaded}
-use Rattle.load.specs.Load.{bytesOf, Loads}
-use Rattle.agent.specs.Calls.{isWellFormedAgent, viewReplied, Calls}
+use Rattle.load.specs.Load.{bytesOf, Loads, isWellFormedAgent}
+use Rattle.agent.specs.Calls.{viewReplied, Calls}
 use Rattle.agent.specs.Chain.{Link, Chain}
 use Rattle.agent.specs.Chain as Chain
 use Rattle.agent.specs.Feed.{respondBy, Journal}
-use Rattle.agent.proofs.CallsLaws.{test-parts, test-within}
-use Rattle.agent.proofs.ChainLaws.{Held, held-formed, held-call, held-next, loaded-held}
+use Rattle.agent.proofs.ChainLaws.{Held, own-held, held-formed, held-call, held-next, loaded-held}
 use Rattle.journal.specs.Session.{Session}
 use Rattle.journal.specs.Answers.{callIn, textOf, linksOf}
 use Rattle.journal.specs.Output.{answersBy, replyTo, outputOf, mostFile, fileRefusal, refusedWith, printedFor}
@@ -81,12 +81,6 @@ module _ (Good : Agent → Type 0) (reply : AgentState → Option Call → Reply
 
 -- ---- Any agent
 
--- a well-formed agent holds its library
-holds-own : (a : Agent) → isWellFormedAgent a ≡ true → Held (bytesOf a) a
-holds-own a e =
-    let w = test-parts (a .library) (a .length) (a .state) e in
-    record { size = test-within (a .library) (a .length) (a .state) e; bytes-are = refl; fit = w .fit; formed = w .formed }
-
 -- an agent with this library, well formed or not
 abbrev Kept : Bool → List ℕ → Agent → Type 0
 Kept formed bytes a = (isWellFormedAgent a ≡ formed) × (bytesOf a ≡ bytes)
@@ -104,7 +98,7 @@ module _ (formed : Bool) (bytes : List ℕ) (a : Agent) (kept : Kept formed byte
   unfolding callBy
   same-test = by-cases (isWellFormedAgent a)
       (λ e. let w = test-parts (a .library) (a .length) (a .state) e in
-      held-formed (bytesOf a) (w .accepted) (link .given .agent) (held-next (bytesOf a) (w .accepted) a (holds-own a e) link c) ∙ sym e)
+      held-formed (bytesOf a) (w .accepted) (link .given .agent) (held-next (bytesOf a) (w .accepted) a (own-held a e) link c) ∙ sym e)
       (λ e. ap isWellFormedAgent (c .refused (ap (λ (y : Reply). isRefusal (y .result .answer))
       (c .means ∙ ap (λ (b : Bool). callBy b (libraryOf (bytesOf a)) (viewState (a .state)) (link .call)) e))))
 

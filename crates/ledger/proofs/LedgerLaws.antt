@@ -26,11 +26,11 @@ use Rattle.state.specs.View.{viewState}
 use Rattle.load.specs.declared.Agent.{Agent}
 use Rattle.load.specs.declared.Loaded.{Loaded}
 use Rattle.agent.specs.declared.Replied.{Replied}
-use Rattle.load.specs.Load.{bytesOf, Holds, Loads}
-use Rattle.agent.specs.Calls.{isWellFormedAgent, viewReplied, Calls}
+use Rattle.load.specs.Load.{bytesOf, Holds, Loads, isWellFormedAgent}
+use Rattle.agent.specs.Calls.{viewReplied, Calls}
 use Rattle.agent.specs.Chain.{Link, Chain}
 use Rattle.agent.specs.Chain as Chain
-use Rattle.agent.proofs.CallsLaws.{test-parts}
+use Rattle.formed.proofs.WellFormedLaws.{test-parts}
 use Rattle.trials.proofs.AlteredLaws.{change-removes, change-adds}
 use Rattle.change.specs.declared.Changed.{Changed}
 use Rattle.change.specs.Changes.{step, steps, changed}

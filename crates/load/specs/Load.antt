@@ -2,7 +2,7 @@
 -- dMARS 8.1, InitdMARSAgentState).
 use Prim.Native.Nat.{ℕ, _≤_}
 use mathlib.Core.Path.{_≡_}
-use mathlib.Core.Bool.{true}
+use mathlib.Core.Bool.{Bool, true}
 use mathlib.Core.List.{List}
 use lib.ListN.{length, take, replicate}
 use Rattle.literal.specs.declared.Literal.{Literal}
@@ -19,12 +19,17 @@ use Rattle.model.specs.Calls.{loaded}
 use Rattle.state.specs.declared.Stack.{Stack}
 use Rattle.state.specs.declared.State.{State}
 use Rattle.state.specs.View.{mostBelow, viewState, countsFit}
+use Rattle.formed.specs.Formed.{isWellFormedWith}
 use Rattle.load.specs.declared.Agent.{Agent}
 use Rattle.load.specs.declared.Loaded.{Loaded}
 
 -- the agent's library: the bytes of its copy that are in use
 abbrev pub bytesOf : Agent → List ℕ
 bytesOf a = take (a .length) (a .library)
+
+-- its library is accepted, its length and every count are within their arrays, and its state keeps every rule
+abbrev pub isWellFormedAgent : Agent → Bool
+isWellFormedAgent a = isWellFormedWith (a .library) (a .length) (a .state)
 
 -- a table that holds these beliefs
 pub record Holds (beliefs : List Literal) (table : Beliefs) : Type 0 where

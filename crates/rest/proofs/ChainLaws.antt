@@ -1,14 +1,11 @@
 -- It comes to rest, over chains of contracts: from every well-formed agent, whatever the devices answer.
 use Prim.Native.Nat.{ℕ, _≤_}
-use mathlib.Core.Path.{_≡_, refl, sym, subst, subst⁻¹}
+use mathlib.Core.Path.{_≡_, sym, subst, subst⁻¹}
 use mathlib.Core.Bool.{Bool, true, not, _&&_}
 use mathlib.Core.List.{List, _++_, map, map-map, map-append}
 use native.Mathlib.Omega.{arith}
 use lib.ListN.{length, take, length-map}
-use lib.Dec.{leb, eqb}
-use borrow.Author.Tests.{leb-true, eqb-true}
 use Rattle.lists.specs.Counts.{Every}
-use Rattle.lists.proofs.BoolLaws.{and-parts}
 use Rattle.library.specs.Layout.{libraryOf}
 use Rattle.accepted.specs.Refusal.{refusalOf}
 use Rattle.model.specs.State.{Call}
@@ -16,23 +13,17 @@ use Rattle.model.specs.Run.{Entry, IsChain}
 use Rattle.rest.specs.Rest.{isReport, isCycle, workIn, boundOf, RestsWithin, AtRest}
 use Rattle.rest.proofs.RestLaws.{cycles-quiet, spent-at-rest, cycles-at-rest}
 use Rattle.rest.proofs.LibraryLaws.{chain-rests}
-use Rattle.state.specs.View.{viewState, countsFit}
-use Rattle.formed.specs.Formed.{isStateFormed, isFormed}
+use Rattle.state.specs.View.{viewState}
+use Rattle.formed.proofs.WellFormedLaws.{test-parts}
 use Rattle.load.specs.declared.Agent.{Agent}
-use Rattle.load.specs.Load.{bytesOf}
-use Rattle.agent.specs.Calls.{isWellFormedWith, isWellFormedAgent}
+use Rattle.load.specs.Load.{bytesOf, isWellFormedAgent}
 use Rattle.agent.specs.Chain.{Link, Chain, entryOf, entriesOf}
-use Rattle.agent.proofs.ChainLaws.{Held, chain-is}
+use Rattle.agent.proofs.ChainLaws.{Held, own-held, chain-is}
 
 module _ (a : Agent) (formed : isWellFormedAgent a ≡ true) where
   -- the test says that the library is accepted, and that the agent holds it in a well-formed state
   accepted-held : (refusalOf (bytesOf a) ≡ 0) × Held (bytesOf a) a
-  unfolding isWellFormedWith isFormed isStateFormed
-  accepted-held =
-      let size = and-parts (leb (a .length) (length (a .library))) _ formed in
-      let own = and-parts (eqb (refusalOf (bytesOf a)) 0) _ (size .1) in
-      let rules = and-parts (countsFit (a .state)) _ (own .1) in
-      (eqb-true _ 0 (own .0), record { size = leb-true _ _ (size .0); bytes-are = refl; fit = rules .0; formed = rules .1 })
+  accepted-held = (test-parts (a .library) (a .length) (a .state) formed .accepted, own-held a formed)
 
   -- such a chain is one of the model's, from what the agent's state means
   model-chain : {b : Agent} {links : List Link} → Chain a links b → IsChain (libraryOf (bytesOf a)) (viewState (a .state)) (entriesOf links)

@@ -1,7 +1,7 @@
 -- `agent::feed::feed` meets its contract: what is run on the agent's state is run on the agent.
 use borrow.Author.Needs.{needs}
 use mathlib.Core.Path.{refl}
-use Rattle.agent.specs.Calls.{isWellFormedAgent}
+use Rattle.load.specs.Load.{isWellFormedAgent}
 use Rattle.agent.proofs.FeedLaws.{runs-journal}
 use Rattle.agent.proofs.feed.feed.Statement.{statement}
 use Rattle.agent.proofs.feed.feed.Tie as tie

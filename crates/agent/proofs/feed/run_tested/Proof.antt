@@ -5,7 +5,7 @@ use borrow.Author.Tests.{not-true, not-false}
 use lib.ListN.{take}
 use lib.Seq.{length-take-le}
 use Rattle.lists.proofs.BoolLaws.{both-ways}
-use Rattle.agent.proofs.CallsLaws.{test-within, test-parts}
+use Rattle.formed.proofs.WellFormedLaws.{test-within, test-parts}
 use Rattle.agent.proofs.feed.run_tested.Statement.{statement}
 use Rattle.agent.proofs.feed.run_tested.Tie as tie
 

@@ -9,10 +9,10 @@ use Rattle.model.specs.declared.Answer.the-variants.{Refused}
 use Rattle.reading.specs.Spoken.{meaning}
 use Rattle.state.proofs.CountParts.{counts-parts}
 use Rattle.steps.specs.View.{plainly, stackAt}
-use Rattle.agent.specs.Calls.{isWellFormedWith}
+use Rattle.formed.specs.Formed.{isWellFormedWith}
 use Rattle.agent.specs.Feed.{Trusted, Responds}
 use Rattle.agent.specs.Look.{Looked}
-use Rattle.agent.proofs.CallsLaws.{test-within, test-parts}
+use Rattle.formed.proofs.WellFormedLaws.{test-within, test-parts}
 use Rattle.agent.proofs.FeedLaws.{responds-refused}
 use Rattle.agent.proofs.LookLaws.{place-low}
 use Rattle.agent.proofs.respond.respond.Statement.{statement}

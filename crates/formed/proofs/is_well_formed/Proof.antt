@@ -1,10 +1,10 @@
--- `agent::respond::is_well_formed` meets its contract: the length first, then the test of the bytes in use.
+-- `formed::is_well_formed` meets its contract: the length first, then the test of the bytes in use.
 use borrow.Author.Needs.{needs}
 use mathlib.Core.Path.{sym, _∙_}
 use lib.Seq.{length-take-le}
-use Rattle.agent.proofs.CallsLaws.{test-past, test-own}
-use Rattle.agent.proofs.respond.is_well_formed.Statement.{statement}
-use Rattle.agent.proofs.respond.is_well_formed.Tie as tie
+use Rattle.formed.proofs.WellFormedLaws.{test-past, test-own}
+use Rattle.formed.proofs.is_well_formed.Statement.{statement}
+use Rattle.formed.proofs.is_well_formed.Tie as tie
 
 returns : tie.Need-returns
 returns c = let a = (c .before .before .args) in test-past (a .library .now) (a .length) (a .s) ((c .if1) .taken)
