@@ -2,13 +2,14 @@
 use Prim.Native.Nat.{ℕ, _≤_}
 use mathlib.Core.Path.{_≡_, refl, ap, sym, subst, subst⁻¹, _∙_}
 use mathlib.Core.Bool.{Bool, true}
-use mathlib.Core.List.{List, map, map-map}
+use mathlib.Core.List.{List, map-map}
 use lib.ListN.{length, take}
 use Rattle.lists.specs.Counts.{Every}
+use Rattle.lists.proofs.BoolLaws.{by-cases}
 use Rattle.library.specs.Layout.{libraryOf, beliefsOf}
 use Rattle.accepted.specs.Refusal.{refusalOf}
-use Rattle.model.specs.State.{AgentState, Reply}
-use Rattle.model.specs.Calls.{callBy, call, loaded}
+use Rattle.model.specs.State.{AgentState, Call, Reply}
+use Rattle.model.specs.Calls.{isRefusal, callBy, call, loaded}
 use Rattle.model.specs.WellFormed.{isWellFormed}
 use Rattle.model.specs.Promises.{isNotTen}
 use Rattle.model.specs.Run.{Entry, entry, run, finalOf, IsChain}
@@ -23,7 +24,8 @@ use Rattle.load.specs.declared.Agent.{Agent}
 use Rattle.load.specs.declared.Loaded.{Loaded}
 use Rattle.load.specs.Load.{bytesOf, Loads, isWellFormedAgent}
 use Rattle.agent.specs.Calls.{viewReplied, Calls}
-use Rattle.agent.specs.Chain.{Link, Chain, start, then, entryOf, entriesOf}
+use Rattle.agent.specs.declared.Replied.{Replied}
+use Rattle.agent.specs.Chain.{Link, Chain, start, then, entryOf, entriesOf, callsOf}
 
 -- an agent that holds this library, accepted, in a well-formed state
 pub record Held (bytes : List ℕ) (a : Agent) : Type 0 where
@@ -37,6 +39,10 @@ pub own-held : (a : Agent) → isWellFormedAgent a ≡ true → Held (bytesOf a)
 own-held a e =
     let w = test-parts (a .library) (a .length) (a .state) e in
     record { size = test-within (a .library) (a .length) (a .state) e; bytes-are = refl; fit = w .fit; formed = w .formed }
+
+-- the library after a call is the one before it
+pub call-library : {a : Agent} {c : Call} {r : Replied} → Calls a c r → bytesOf (r .agent) ≡ bytesOf a
+call-library {a} {r = r} c = ap (λ (n : ℕ). take n (r .agent .library)) (c .length) ∙ ap (take (a .length)) (c .library)
 
 module _ (bytes : List ℕ) (accepted : refusalOf bytes ≡ 0) where
   pub held-formed : (a : Agent) → Held bytes a → isWellFormedAgent a ≡ true
@@ -58,14 +64,14 @@ module _ (bytes : List ℕ) (accepted : refusalOf bytes ≡ 0) where
       let next = link .given .agent in
       let same = held-call a h link c in
       let size : next .length ≤ length (next .library) = subst⁻¹ (λ (n : ℕ). n ≤ length (next .library)) (c .length) (subst⁻¹ (λ (l : List ℕ). a .length ≤ length l) (c .library) (h .size)) in
-      let own : bytesOf next ≡ bytes = ap (λ (n : ℕ). take n (next .library)) (c .length) ∙ ap (take (a .length)) (c .library) ∙ h .bytes-are in
       record {
         size = size;
-        bytes-are = own;
+        bytes-are = call-library c ∙ h .bytes-are;
         fit = c .fit (held-formed a h);
         formed = subst⁻¹ (λ (r : Reply). isWellFormed (libraryOf bytes) (r .state) ≡ true) same (promises (libraryOf bytes) (acceptable bytes accepted) (viewState (a .state)) (h .formed) (link .call) .formed);
       }
 
+  -- a chain of contracts is one of the model's
   pub chain-is : {a b : Agent} {links : List Link} → Held bytes a → Chain a links b → IsChain (libraryOf bytes) (viewState (a .state)) (entriesOf links)
   chain-is h start = tt
   chain-is {a = a} h (then link c rest) = (ap (entry (link .call)) (held-call a h link c), chain-is (held-next a h link c) rest)
@@ -101,7 +107,7 @@ module _ (bytes : List ℕ) (accepted : refusalOf bytes ≡ 0) where
     never-ten = chain-never-ten (libraryOf bytes) (acceptable bytes accepted) (entriesOf links) from-loaded
 
     -- the entries are the model's run of the calls
-    entries-run : run (libraryOf bytes) (loaded (libraryOf bytes)) (map (λ (k : Link). k .call) links) ≡ entriesOf links
+    entries-run : run (libraryOf bytes) (loaded (libraryOf bytes)) (callsOf links) ≡ entriesOf links
     entries-run =
         ap (run (libraryOf bytes) (loaded (libraryOf bytes))) (sym (map-map (λ (e : Entry). e .call) entryOf links))
         ∙ chain-run (libraryOf bytes) (loaded (libraryOf bytes)) (entriesOf links) from-loaded
@@ -109,6 +115,15 @@ module _ (bytes : List ℕ) (accepted : refusalOf bytes ≡ 0) where
   -- results and states are the same whatever the places past the counts hold: they depend on the library and the calls alone
   pub same-entries : (l m : Loaded) → Loads bytes l → Loads bytes m
       → {a b : Agent} {links others : List Link} → Chain (l .agent) links a → Chain (m .agent) others b
-      → map (λ (k : Link). k .call) links ≡ map (λ (k : Link). k .call) others → entriesOf links ≡ entriesOf others
+      → callsOf links ≡ callsOf others → entriesOf links ≡ entriesOf others
   same-entries l m x y c d e =
       sym (entries-run l x c) ∙ ap (run (libraryOf bytes) (loaded (libraryOf bytes))) e ∙ entries-run m y d
+
+-- a call keeps an agent well formed, and one that is not as it is
+pub call-test : (a : Agent) (link : Link) → Calls a (link .call) (link .given) → isWellFormedAgent (link .given .agent) ≡ isWellFormedAgent a
+unfolding callBy
+call-test a link c = by-cases (isWellFormedAgent a)
+    (λ e. let w = test-parts (a .library) (a .length) (a .state) e in
+    held-formed (bytesOf a) (w .accepted) (link .given .agent) (held-next (bytesOf a) (w .accepted) a (own-held a e) link c) ∙ sym e)
+    (λ e. ap isWellFormedAgent (c .refused (ap (λ (y : Reply). isRefusal (y .result .answer))
+    (c .means ∙ ap (λ (b : Bool). callBy b (libraryOf (bytesOf a)) (viewState (a .state)) (link .call)) e))))

@@ -26,3 +26,7 @@ entryOf link = record { call = link .call; result = viewResult (link .given .res
 
 abbrev pub entriesOf : List Link → List Entry
 entriesOf links = map entryOf links
+
+-- the calls alone
+abbrev pub callsOf : List Link → List Call
+callsOf links = map (λ (link : Link). link .call) links

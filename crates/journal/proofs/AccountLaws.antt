@@ -36,11 +36,12 @@ use Rattle.load.specs.declared.Agent.{Agent}
 use Rattle.load.specs.declared.Loaded.{Loaded}
 use Rattle.load.specs.Load.{Loads}
 use Rattle.agent.specs.Chain.{Link, entriesOf}
-use Rattle.agent.specs.Feed.{unreadable}
+use Rattle.agent.specs.Feed.{unreadable, Journal}
 use Rattle.journal.specs.Session.{Session}
 use Rattle.journal.specs.Answers.{callIn, textOf, fitsAnswer, linksOf, Answers}
 use Rattle.journal.specs.Account.{noteLine, SameAccount}
-use Rattle.journal.proofs.AnswerLaws.{session-answers, session-demand-3}
+use Rattle.journal.proofs.SessionLaws.{session-journal}
+use Rattle.journal.proofs.AnswerLaws.{journal-accounted, session-answers}
 
 -- ---- One line
 
@@ -161,15 +162,22 @@ pub session-account : {a b c d : Agent} {carry other : Carry} {input output : Li
     → SameAccount (entriesOf (linksOf (session-answers fresh s .answers))) (entriesOf (linksOf (session-answers fresh-too t .answers)))
 session-account fresh fresh-too s t = account-by-bytes (session-answers fresh s) (session-answers fresh-too t)
 
--- and demand 3, of what a session on a loaded agent prints, holds of every such reading of the bytes
-pub reading-demand-3 : (bytes : List ℕ) → refusalOf bytes ≡ 0 → (l : Loaded) → Loads bytes l
-    → {b c d : Agent} {carry : Carry} {input output : List ℕ} → begun carry ≡ some [] → Session (l .agent) carry input output b
+-- and demand 3, of a journal of an input's lines on a loaded agent, holds of every such reading of the bytes
+pub journal-reading : (bytes : List ℕ) → refusalOf bytes ≡ 0 → (l : Loaded) → Loads bytes l
+    → (input : List ℕ) {output : List ℕ} {b c d : Agent} → Journal (l .agent) (map callOf (lines input)) output b
     → (t : Answers c (map callOf (lines input)) output d)
     → Demand3 (beliefsOf bytes) (entriesOf (linksOf (t .answers))) (viewState (b .state))
-reading-demand-3 bytes accepted l loads {b = b} fresh s t =
-    let own = session-demand-3 bytes accepted l loads fresh s in
+journal-reading bytes accepted l loads input {b = b} j t =
+    let own = journal-accounted bytes accepted l loads input j in
     let same = account-by-bytes (own .answers) t in
     record {
       accounts = subst (λ (h : History). Accounted h (viewState (b .state))) (same .history-is) (own .demand-3 .accounts);
       table = own .demand-3 .table ∙ same .table-is (beliefsOf bytes);
     }
+
+-- so of what a session on a loaded agent prints
+pub reading-demand-3 : (bytes : List ℕ) → refusalOf bytes ≡ 0 → (l : Loaded) → Loads bytes l
+    → {b c d : Agent} {carry : Carry} {input output : List ℕ} → begun carry ≡ some [] → Session (l .agent) carry input output b
+    → (t : Answers c (map callOf (lines input)) output d)
+    → Demand3 (beliefsOf bytes) (entriesOf (linksOf (t .answers))) (viewState (b .state))
+reading-demand-3 bytes accepted l loads {input = input} fresh s t = journal-reading bytes accepted l loads input (session-journal fresh s) t

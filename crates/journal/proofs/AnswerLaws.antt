@@ -118,6 +118,18 @@ one-line-each j =
     let s = journal-chain j in
     sym (ap (count (eqb newline)) (s .printed)) ∙ texts-count (s .answers) ∙ ap length (s .lines)
 
+-- demand 3 holds of a journal's text, on an agent that load gives, and 10 is not in it
+pub journal-accounted : (bytes : List ℕ) → refusalOf bytes ≡ 0 → (l : Loaded) → Loads bytes l
+    → (input : List ℕ) {output : List ℕ} {b : Agent} → Journal (l .agent) (map callOf (lines input)) output b
+    → Accounted bytes (l .agent) input output b
+journal-accounted bytes accepted l loads input j =
+    let told = journal-chain j in
+    record {
+      answers = told;
+      demand-3 = ChainLaws.demand-3 bytes accepted l loads (told .chain);
+      never-ten = ChainLaws.never-ten bytes accepted l loads (told .chain);
+    }
+
 -- ---- A session
 
 pub session-answers : {a b : Agent} {carry : Carry} {input output : List ℕ} → begun carry ≡ some [] → Session a carry input output b
@@ -133,10 +145,4 @@ session-lines {input = input} fresh s = one-line-each (session-journal fresh s) 
 pub session-demand-3 : (bytes : List ℕ) → refusalOf bytes ≡ 0 → (l : Loaded) → Loads bytes l
     → {b : Agent} {carry : Carry} {input output : List ℕ} → begun carry ≡ some [] → Session (l .agent) carry input output b
     → Accounted bytes (l .agent) input output b
-session-demand-3 bytes accepted l loads fresh s =
-    let told = session-answers fresh s in
-    record {
-      answers = told;
-      demand-3 = ChainLaws.demand-3 bytes accepted l loads (told .chain);
-      never-ten = ChainLaws.never-ten bytes accepted l loads (told .chain);
-    }
+session-demand-3 bytes accepted l loads {input = input} fresh s = journal-accounted bytes accepted l loads input (session-journal fresh s)

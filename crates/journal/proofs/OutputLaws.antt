@@ -6,22 +6,20 @@ use mathlib.Core.Bool.{Bool, false}
 use mathlib.Core.Option.{Option, none, some}
 use mathlib.Core.List.{List, [], _∷_, _++_, map}
 use lib.Dec.{eqb}
-use lib.ListN.{length, take}
+use lib.ListN.{length}
 use borrow.Author.Tests.{ne-eqb, lt-ltb, le-ltb}
 use Rattle.lists.specs.Counts.{each}
-use Rattle.lists.proofs.BoolLaws.{by-cases}
 use Rattle.library.specs.Layout.{libraryOf}
 use Rattle.accepted.specs.Refusal.{refusalOf}
 use Rattle.accepted.proofs.Size.{library-most}
 use Rattle.model.specs.State.{AgentState, Call, Reply, refuse}
-use Rattle.model.specs.Calls.{isRefusal, callBy, call}
+use Rattle.model.specs.Calls.{callBy, call}
 use Rattle.state.specs.View.{viewState}
 use Rattle.printing.specs.LineText.{resultText}
 use Rattle.reading.specs.Call.{callOf}
 use Rattle.stream.specs.declared.Carry.{Carry}
 use Rattle.stream.specs.Lines.{lines}
 use Rattle.stream.specs.Carried.{begun}
-use Rattle.formed.proofs.WellFormedLaws.{test-parts}
 use Rattle.load.specs.declared.Agent.{Agent}
 use Rattle.load.specs.declared.Loaded.{Loaded}
 use Rattle.load.specs.Load.{bytesOf, Loads, isWellFormedAgent}
@@ -29,7 +27,7 @@ use Rattle.agent.specs.Calls.{viewReplied, Calls}
 use Rattle.agent.specs.Chain.{Link, Chain}
 use Rattle.agent.specs.Chain as Chain
 use Rattle.agent.specs.Feed.{respondBy, Journal}
-use Rattle.agent.proofs.ChainLaws.{Held, own-held, held-formed, held-call, held-next, loaded-held}
+use Rattle.agent.proofs.ChainLaws.{Held, call-library, held-call, held-next, loaded-held, call-test}
 use Rattle.journal.specs.Session.{Session}
 use Rattle.journal.specs.Answers.{callIn, textOf, linksOf}
 use Rattle.journal.specs.Output.{answersBy, replyTo, outputOf, mostFile, fileRefusal, refusedWith, printedFor}
@@ -93,19 +91,8 @@ module _ (formed : Bool) (bytes : List ℕ) (a : Agent) (kept : Kept formed byte
       c .means ∙ ap (λ (b : Bool). callBy b (libraryOf (bytesOf a)) (viewState (a .state)) (link .call)) (kept .0)
       ∙ ap (λ (l : List ℕ). callBy formed (libraryOf l) (viewState (a .state)) (link .call)) (kept .1)
 
-  -- a call keeps an agent well formed, and one that is not as it is
-  same-test : isWellFormedAgent (link .given .agent) ≡ isWellFormedAgent a
-  unfolding callBy
-  same-test = by-cases (isWellFormedAgent a)
-      (λ e. let w = test-parts (a .library) (a .length) (a .state) e in
-      held-formed (bytesOf a) (w .accepted) (link .given .agent) (held-next (bytesOf a) (w .accepted) a (own-held a e) link c) ∙ sym e)
-      (λ e. ap isWellFormedAgent (c .refused (ap (λ (y : Reply). isRefusal (y .result .answer))
-      (c .means ∙ ap (λ (b : Bool). callBy b (libraryOf (bytesOf a)) (viewState (a .state)) (link .call)) e))))
-
   kept-next : Kept formed bytes (link .given .agent)
-  kept-next =
-      let next = link .given .agent in
-      (same-test ∙ kept .0, ap (λ (n : ℕ). take n (next .library)) (c .length) ∙ ap (take (a .length)) (c .library) ∙ kept .1)
+  kept-next = (call-test a link c ∙ kept .0, call-library c ∙ kept .1)
 
 -- the reply of an agent's calls, from what the test says of it on
 abbrev pub replyOf : Agent → AgentState → Option Call → Reply
@@ -126,23 +113,31 @@ module _ {a b : Agent} {calls : List (Option Call)} {text : List ℕ} (j : Journ
       state-by (Kept (isWellFormedAgent a) (bytesOf a)) (replyOf a) (λ s. refl) (kept-reply (isWellFormedAgent a) (bytesOf a))
       (kept-next (isWellFormedAgent a) (bytesOf a)) (refl, refl) j
 
--- ---- A session on an agent that load gives
+-- ---- On an agent that load gives
 
 module _ (bytes : List ℕ) (accepted : refusalOf bytes ≡ 0) (l : Loaded) (loads : Loads bytes l) where
-  module _ {b : Agent} {carry : Carry} {input output : List ℕ} (fresh : begun carry ≡ some []) (s : Session (l .agent) carry input output b) where
-    -- its output depends on the library's bytes and the input's alone, and is what the definition computes
-    pub session-output : output ≡ outputOf bytes input
+  module _ (input : List ℕ) {output : List ℕ} {b : Agent} (j : Journal (l .agent) (map callOf (lines input)) output b) where
+    -- the text of a journal of an input's lines
+    pub journal-output : output ≡ outputOf bytes input
     unfolding outputOf replyTo respondBy call
-    session-output =
+    journal-output =
         text-by (Held bytes) (replyTo (libraryOf bytes)) (λ x. refl) (held-call bytes accepted) (held-next bytes accepted)
-        (loaded-held bytes accepted l loads) (session-journal fresh s)
+        (loaded-held bytes accepted l loads) j
         ∙ ap (λ (x : AgentState). answersBy (replyTo (libraryOf bytes)) x (map callOf (lines input))) (loads .state accepted)
 
-    pub session-printed : output ≡ printedFor bytes input
+    pub journal-printed : output ≡ printedFor bytes input
     unfolding printedFor fileRefusal
-    session-printed =
+    journal-printed =
         let short = le-ltb mostFile (length bytes) (omega (arith, library-most bytes accepted)) in
-        session-output ∙ rw (short, accepted)
+        journal-output ∙ rw (short, accepted)
+
+  module _ {b : Agent} {carry : Carry} {input output : List ℕ} (fresh : begun carry ≡ some []) (s : Session (l .agent) carry input output b) where
+    -- the output of a session depends on the library's bytes and the input's alone, and is what the definition computes
+    pub session-output : output ≡ outputOf bytes input
+    session-output = journal-output input (session-journal fresh s)
+
+    pub session-printed : output ≡ printedFor bytes input
+    session-printed = journal-printed input (session-journal fresh s)
 
 -- where load refuses the library the output is X and its number
 pub refused-printed : (bytes input : List ℕ) → length bytes ≤ mostFile → (l : Loaded) → Loads bytes l → (l .refusal ≡ 0 → ⊥)

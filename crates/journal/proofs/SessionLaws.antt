@@ -37,7 +37,7 @@ writes-text w = w .first ∙ front (w .feeds .written) (w .feeds .room)
 
 -- ---- Journals, one after the other
 
-journal-join : {a b c : Agent} {calls more : List (Option Call)} {text further : List ℕ}
+pub journal-join : {a b c : Agent} {calls more : List (Option Call)} {text further : List ℕ}
     → Journal a calls text b → Journal b more further c → Journal a (calls ++ more) (text ++ further) c
 journal-join {a} {b} {c} {calls} {more} {text} {further} j start =
     subst⁻¹ (λ xs. Journal a xs (text ++ []) b) (append-nil calls) (subst⁻¹ (λ t. Journal a calls t b) (append-nil text) j)
