@@ -1,6 +1,7 @@
 #!/usr/bin/env bash
 # The proved program and the reference answer the same bytes on generated libraries and journals.
-# SEEDS=N runs more than the gate does; a seed that differs is written out by
+# So do shifts that carry an agent over from image to image, and images that are damaged.
+# SEEDS=N and SHIFTS=N run more than the gate does; a seed that differs is written out by
 # target/cargo/release/generate valid|damaged|long SEED FOLDER.
 set -euo pipefail
 cd "$(dirname "$0")/.."
@@ -8,6 +9,8 @@ cd "$(dirname "$0")/.."
 command -v cargo > /dev/null || { echo "cargo is missing: the reference in reference/ and this comparison are built by it"; exit 1; }
 [ -x "${PROVED:-target/bin/canarystand}" ] || { echo "target/bin/canarystand is missing: rt check canarystand builds it"; exit 1; }
 
+# Each shift syncs its image, for which a disk takes its time.
+[ -n "${TMPDIR:-}" ] || [ ! -w /dev/shm ] || export TMPDIR=/dev/shm
 log=$(mktemp)
 trap 'rm -f "$log"' EXIT
 for package in reference tests/differential; do
@@ -19,3 +22,4 @@ for package in reference tests/differential; do
 done
 
 target/cargo/release/differential --strict --seeds "${SEEDS:-400}" --long 2 "$@"
+target/cargo/release/shifts "${PROVED:-target/bin/canarystand}" target/cargo/release/reference "${SHIFTS:-200}"

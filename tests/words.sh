@@ -10,7 +10,7 @@ folder=$(mktemp -d)
 trap 'rm -rf "$folder"' EXIT
 cd "$folder"
 patience=10
-usage='usage: canarystand [endings PLAN N]'
+usage='usage: canarystand [shift | endings PLAN N]'
 passed=0
 
 # holds OUT ERR WORD..: with these words the program writes this and says this.
@@ -25,8 +25,8 @@ holds() {
     passed=$((passed + 1))
 }
 
-# Nobody writes to this library, so a program that opens it waits for ever.
-mkfifo library
+# Nobody writes to these files, so a program that opens one waits for ever.
+mkfifo library image
 holds '' "$usage" ''
 holds '' "$usage" endings
 holds '' "$usage" endings 0
@@ -46,7 +46,14 @@ holds '' "$usage" endings -1 1
 holds '' "$usage" endings 0 +1
 holds '' "$usage" endings 0 11111111111111111
 holds '' "$usage" journal
-rm library
+holds '' "$usage" shif
+holds '' "$usage" shifts
+holds '' "$usage" Shift
+holds '' "$usage" ' shift'
+holds '' "$usage" shift ''
+holds '' "$usage" shift shift
+holds '' "$usage" shift 0 1
+rm library image
 
 cp "$library" library
 holds '0 0' '' endings 0 0

@@ -1,6 +1,10 @@
 //! The libraries and journals that are timed.
 
 use differential::draft::{ACHIEVE, ADD, ADDED, Branch, EXTERNAL, Library, Literal, Plan, QUERY, REMOVE, TOLD, V0};
+use differential::images::{Event, Image, tower_plans};
+use reference::agent::{MOST_EXTERNAL, MOST_INSTANCES, MOST_STACKS};
+use reference::belief::MOST_BELIEFS;
+use reference::library::MOST_PLANS;
 
 /// A library with a journal.
 pub struct Case {
@@ -96,24 +100,61 @@ fn journal_of_jobs(jobs: usize) -> String {
     (0..jobs).map(|job| job_lines(2 * job + 1, 2 * job + 2)).collect()
 }
 
+/// A literal that is never held.
+const ABSENT: Literal = [103, 99, 0, 0];
+
+/// As many beliefs as can be.
+fn full_table() -> Vec<Literal> {
+    (0..MOST_BELIEFS as u16).map(|place| [100 + place % 4, place / 4, 0, 0]).collect()
+}
+
+/// The plan with full contexts, maintenance and lists.
+fn full(plan: Plan) -> Plan {
+    let held = |place: u16| [100 + place % 4, 13, 0, 0];
+    let failing = vec![held(0), held(1), held(2), ABSENT];
+    let situation = vec![failing.clone(), failing.clone(), failing, (0..4).map(held).collect()];
+    let mut full = Plan { context: situation.clone(), maintenance: situation, ..plan };
+    full.success.resize(4, (REMOVE, ABSENT));
+    full.failure.resize(4, (REMOVE, ABSENT));
+    full
+}
+
+/// A full plan of fifteen external actions, for an event of its own.
+fn filler(place: usize) -> Plan {
+    full(Plan::simple(TOLD, [200 + place as u16, V0, 0, 0]).path(&[(EXTERNAL, of_v0(9)); 15]))
+}
+
 /// The largest library, 19,332 bytes: the two jobs last, with full contexts, maintenance, lists and bodies.
 fn largest() -> Library {
-    let beliefs = (0..64).map(|place| [100 + place % 4, place / 4, 0, 0]).collect();
-    let held = |place: u16| [100 + place % 4, 13, 0, 0];
-    let absent = [103, 99, 0, 0];
-    let failing = vec![held(0), held(1), held(2), absent];
-    let situation = vec![failing.clone(), failing.clone(), failing, (0..4).map(held).collect()];
-    let full = |plan: Plan| {
-        let mut full = Plan { context: situation.clone(), maintenance: situation.clone(), ..plan };
-        full.success.resize(4, (REMOVE, absent));
-        full.failure.resize(4, (REMOVE, absent));
-        full
-    };
-    let steps = [(EXTERNAL, of_v0(9)); 15];
-    let mut plans: Vec<Plan> = (0..30).map(|place| full(Plan::simple(TOLD, [200 + place, V0, 0, 0]).path(&steps))).collect();
+    let mut plans: Vec<Plan> = (2..MOST_PLANS).map(filler).collect();
     let [job, goal] = jobs();
     plans.extend([full(job), full(spread(goal))]);
-    Library { beliefs, plans }
+    Library { beliefs: full_table(), plans }
+}
+
+/// The image of the largest agent: the largest library, eight stacks of eight, and a queue of 32 external events and 56 goals.
+pub fn largest_image() -> Vec<u8> {
+    let mut plans: Vec<Plan> = tower_plans().map(|plan| full(lengthened(plan))).into();
+    plans.extend((2..MOST_PLANS).map(filler));
+    let library = Library { beliefs: full_table(), plans };
+    let mut image = Image::towers(&library, MOST_STACKS as u16, MOST_INSTANCES as u16).with_active_tops();
+    let pending = |number| Event { origin: [0; 3], kind: TOLD, literal: [1, 5, 0, 0], failed: 0, number };
+    image.events.extend((image.taken + 1..=MOST_EXTERNAL as u16).map(pending));
+    image.taken = MOST_EXTERNAL as u16;
+    image.encode()
+}
+
+/// The path of one step, with fourteen external actions behind it.
+fn lengthened(plan: Plan) -> Plan {
+    let first = &plan.states[0][0];
+    let mut steps = vec![(first.kind, first.literal)];
+    steps.resize(15, (EXTERNAL, of_v0(9)));
+    plan.path(&steps)
+}
+
+/// Images that are carried over by a shift without lines.
+pub fn images() -> Vec<(&'static str, Vec<u8>)> {
+    vec![("one instance, suspended", Image::tower(1).encode()), ("the largest agent", largest_image())]
 }
 
 /// Reports that take eight of the largest library's beliefs out, to make room for what the jobs add.
@@ -257,5 +298,14 @@ mod tests {
     #[test]
     fn the_largest_library_is_as_large_as_can_be() {
         assert_eq!(largest().encode().len(), 19_332);
+    }
+
+    #[test]
+    fn the_largest_image_is_as_large_as_can_be() {
+        assert_eq!(largest_image().len(), 23_506);
+        for (name, bytes) in images() {
+            let agent = reference::image::restore(&bytes).expect(name);
+            assert_eq!(reference::image::image(&agent), bytes);
+        }
     }
 }

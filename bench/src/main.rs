@@ -2,19 +2,17 @@
 //!
 //! `bench PROVED REFERENCE [RUNS]`; a program that does not exist is left out. Times are the least of RUNS runs.
 
-use cases::Case;
-use measure::Folder;
+use bench::cases::{self, Case};
+use bench::measure::{Folder, Measured};
 use std::collections::BTreeSet;
-use std::path::{Path, PathBuf};
+use std::path::PathBuf;
 use std::process::ExitCode;
-
-mod cases;
-mod measure;
-
-type Measured<T> = Result<T, Box<dyn std::error::Error>>;
 
 /// How many lines of a journal callgrind sees.
 const COUNTED_LINES: usize = 20_000;
+
+/// The words that make a program start from an image.
+const MODES: [&str; 1] = ["shift"];
 
 /// What one program took for one journal.
 #[derive(Clone, Copy)]
@@ -68,6 +66,27 @@ impl Bench {
                 self.growth(&case)?;
             }
         }
+        self.images()
+    }
+
+    /// What the modes cost that start from an image: a shift without lines restores an agent and saves it again.
+    fn images(&self) -> Measured<()> {
+        println!("\n### A shift without lines\n");
+        println!("| Mode | Image | Bytes | Reference ms | Proved ms | Ratio | Reference Minstr | Proved Minstr | Ratio |");
+        println!("|---|---|---:|---:|---:|---:|---:|---:|---:|");
+        for mode in MODES {
+            for (name, image) in cases::images() {
+                self.folder.set_image(&image)?;
+                self.same_answers(name, &[mode])?;
+                if self.folder.image()? != image {
+                    return Err(format!("{mode}, {name}: another image is left").into());
+                }
+                let costs = self.costs_in_folder(&[mode], || Ok(()))?;
+                let times = compared(costs, |cost| cost.nanoseconds, 1e6);
+                let instructions = compared(costs, |cost| cost.instructions, 1e6);
+                println!("| {mode} | {name} | {} | {times} | {instructions} |", image.len());
+            }
+        }
         Ok(())
     }
 
@@ -94,19 +113,24 @@ impl Bench {
 
     /// The least time of some runs, the programs turn about, and the instructions of a shorter journal.
     fn costs(&self, library: &[u8], input: &[u8], counted: &[u8]) -> Measured<[Option<Cost>; 2]> {
-        let mut least = [u64::MAX; 2];
         self.folder.set(library, input)?;
+        self.costs_in_folder(&[], || self.folder.set(library, counted))
+    }
+
+    /// The same on what the folder holds, with words behind the programs' names; `shorten` comes before instructions are counted.
+    fn costs_in_folder(&self, words: &[&str], shorten: impl FnOnce() -> Measured<()>) -> Measured<[Option<Cost>; 2]> {
+        let mut least = [u64::MAX; 2];
         for _ in 0..self.runs {
             for (least, program) in least.iter_mut().zip(&self.programs) {
                 if let Some(program) = program {
-                    *least = self.folder.time(program)?.min(*least);
+                    *least = self.folder.time(program, words)?.min(*least);
                 }
             }
         }
-        self.folder.set(library, counted)?;
+        shorten()?;
         let cost = |place: usize| -> Measured<Option<Cost>> {
             let Some(program) = &self.programs[place] else { return Ok(None) };
-            Ok(Some(Cost { nanoseconds: least[place], instructions: self.folder.instructions(program)? }))
+            Ok(Some(Cost { nanoseconds: least[place], instructions: self.folder.instructions(program, words)? }))
         };
         Ok([cost(0)?, cost(1)?])
     }
@@ -114,18 +138,20 @@ impl Bench {
     /// The letters of the answers, on which the programs must agree.
     fn letters(&self, case: &Case) -> Measured<String> {
         self.folder.set(&case.library, &case.input)?;
-        let answers: Vec<Vec<u8>> = self
-            .programs
-            .iter()
-            .flatten()
-            .map(|program: &PathBuf| self.folder.answers(Path::new(program)))
-            .collect::<Measured<_>>()?;
-        if answers.windows(2).any(|pair| pair[0] != pair[1]) {
-            return Err(format!("{}: the programs differ", case.name).into());
-        }
-        let lines = answers.first().map(|text| text.split(|byte| *byte == b'\n')).into_iter().flatten();
+        let answers = self.same_answers(&case.name, &[])?;
+        let lines = answers.split(|byte| *byte == b'\n');
         let letters: BTreeSet<&u8> = lines.filter_map(|line| line.first()).collect();
         Ok(letters.into_iter().map(|letter| char::from(*letter)).collect())
+    }
+
+    /// What the programs answer on what the folder holds, if they agree.
+    fn same_answers(&self, name: &str, words: &[&str]) -> Measured<Vec<u8>> {
+        let programs = self.programs.iter().flatten();
+        let mut answers: Vec<Vec<u8>> = programs.map(|program| self.folder.answers(program, words)).collect::<Measured<_>>()?;
+        if answers.windows(2).any(|pair| pair[0] != pair[1]) {
+            return Err(format!("{name}: the programs differ").into());
+        }
+        Ok(answers.pop().unwrap_or_default())
     }
 }
 

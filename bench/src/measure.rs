@@ -5,9 +5,9 @@ use std::io::Read;
 use std::path::{Path, PathBuf};
 use std::process::{Command, Stdio};
 
-type Measured<T> = Result<T, Box<dyn std::error::Error>>;
+pub type Measured<T> = Result<T, Box<dyn std::error::Error>>;
 
-/// A folder in which programs run, with the files "library" and "input".
+/// A folder in which programs run, with the files "library", "image" and "input".
 pub struct Folder(PathBuf);
 
 impl Folder {
@@ -22,16 +22,27 @@ impl Folder {
         Ok(fs::write(self.0.join("input"), input)?)
     }
 
-    fn command(&self, program: &Path) -> Measured<Command> {
+    /// Holds an image and an input without lines.
+    pub fn set_image(&self, image: &[u8]) -> Measured<()> {
+        fs::write(self.0.join("image"), image)?;
+        Ok(fs::write(self.0.join("input"), b"")?)
+    }
+
+    /// The image that the folder holds.
+    pub fn image(&self) -> Measured<Vec<u8>> {
+        Ok(fs::read(self.0.join("image"))?)
+    }
+
+    fn command(&self, program: &Path, words: &[&str]) -> Measured<Command> {
         let mut command = Command::new(program);
-        command.current_dir(&self.0).stdin(File::open(self.0.join("input"))?);
+        command.args(words).current_dir(&self.0).stdin(File::open(self.0.join("input"))?);
         command.stdout(Stdio::null()).stderr(Stdio::piped());
         Ok(command)
     }
 
     /// Nanoseconds on a processor, user and system, as the kernel counts them for the ended process.
-    pub fn time(&self, program: &Path) -> Measured<u64> {
-        let mut child = self.command(program)?.spawn()?;
+    pub fn time(&self, program: &Path, words: &[&str]) -> Measured<u64> {
+        let mut child = self.command(program, words)?.spawn()?;
         let mut errors = String::new();
         if let Some(mut stderr) = child.stderr.take() {
             stderr.read_to_string(&mut errors)?;
@@ -45,9 +56,9 @@ impl Folder {
     }
 
     /// Instructions, by callgrind.
-    pub fn instructions(&self, program: &Path) -> Measured<u64> {
-        let mut command = self.command(Path::new("valgrind"))?;
-        command.args(["--tool=callgrind", "--callgrind-out-file=/dev/null"]).arg(program);
+    pub fn instructions(&self, program: &Path, words: &[&str]) -> Measured<u64> {
+        let mut command = self.command(Path::new("valgrind"), &["--tool=callgrind", "--callgrind-out-file=/dev/null"])?;
+        command.arg(program).args(words);
         let output = command.output()?;
         let errors = String::from_utf8_lossy(&output.stderr);
         let collected = errors.lines().find_map(|line| line.split_once("Collected : "));
@@ -56,8 +67,8 @@ impl Folder {
     }
 
     /// The answers of a program.
-    pub fn answers(&self, program: &Path) -> Measured<Vec<u8>> {
-        Ok(self.command(program)?.stdout(Stdio::piped()).output()?.stdout)
+    pub fn answers(&self, program: &Path, words: &[&str]) -> Measured<Vec<u8>> {
+        Ok(self.command(program, words)?.stdout(Stdio::piped()).output()?.stdout)
     }
 }
 

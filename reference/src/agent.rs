@@ -5,7 +5,7 @@ use crate::belief::{Beliefs, Change};
 use crate::library::{Action, Branch, BranchKind, EventKind, Library, Plan};
 use crate::literal::{Bindings, Fact, Literal};
 use crate::refusal::Refusal;
-use crate::state::{Event, Instance, Origin, Stack, Status};
+use crate::state::{Event, Instance, Number, Origin, Stack, Status};
 
 /// The most external events that are queued at a time.
 pub const MOST_EXTERNAL: usize = 32;
@@ -14,7 +14,7 @@ pub const MOST_STACKS: usize = 8;
 /// The most instances in one stack.
 pub const MOST_INSTANCES: usize = 8;
 /// The last number that an event or an instance can have.
-const LAST_NUMBER: u16 = u16::MAX;
+const LAST_NUMBER: Number = Number::MAX;
 
 /// What became of a branch.
 enum Attempt {
@@ -27,18 +27,20 @@ enum Attempt {
 /// An agent that runs a library.
 #[derive(Clone, Debug)]
 pub struct Agent {
+    library: Vec<u8>,
     plans: Vec<Plan>,
     beliefs: Beliefs,
     queue: Vec<Event>,
     stacks: Vec<Stack>,
-    taken: u16,
-    made: u16,
+    taken: Number,
+    made: Number,
 }
 
 impl Agent {
     /// An agent that has done nothing yet.
     pub fn new(library: Library) -> Self {
         Agent {
+            library: library.bytes,
             plans: library.plans,
             beliefs: Beliefs::of(library.beliefs),
             queue: Vec::new(),
@@ -46,6 +48,16 @@ impl Agent {
             taken: 0,
             made: 0,
         }
+    }
+
+    /// The agent with other beliefs, events, stacks and counts, which the caller knows to be well formed.
+    pub(crate) fn in_state(self, facts: Vec<Fact>, queue: Vec<Event>, stacks: Vec<Stack>, [taken, made]: [Number; 2]) -> Self {
+        Agent { beliefs: Beliefs::of(facts), queue, stacks, taken, made, ..self }
+    }
+
+    /// The bytes of its library.
+    pub fn library(&self) -> &[u8] {
+        &self.library
     }
 
     /// The plans, by number.
@@ -66,6 +78,16 @@ impl Agent {
     /// The stacks, the next to run first.
     pub fn stacks(&self) -> &[Stack] {
         &self.stacks
+    }
+
+    /// How many external events were taken.
+    pub fn taken(&self) -> Number {
+        self.taken
+    }
+
+    /// How many instances were made.
+    pub fn made(&self) -> Number {
+        self.made
     }
 
     /// A device reports: kind 0 a belief gained, 1 a belief lost, 2 an event.
@@ -107,7 +129,7 @@ impl Agent {
     }
 
     /// A device tells whether the action that an instance waits for worked.
-    pub fn outcome(&mut self, id: u16, worked: bool) -> Result<Answer, Refusal> {
+    pub fn outcome(&mut self, id: Number, worked: bool) -> Result<Answer, Refusal> {
         let waits = |top: &&mut Instance| top.id == id && top.status == Status::Waiting;
         let mut tops = self.stacks.iter_mut().filter_map(|stack| stack.last_mut());
         let instance = tops.find(waits).ok_or(Refusal::NotWaiting)?;

@@ -2,23 +2,23 @@
 
 use crate::belief::Change;
 use crate::literal::Fact;
-use crate::state::{Origin, Place};
+use crate::state::{Number, Origin, Place};
 
 /// What a call did.
 #[derive(Clone, Copy, Debug, PartialEq, Eq)]
 pub enum Deed {
     /// The external event with this number was taken.
-    Taken(u16),
+    Taken(Number),
     /// There was nothing to do.
     Idle,
     /// An external event was dropped; so many plans had failed for it.
-    Dropped(u16, usize),
+    Dropped(Number, usize),
     /// A goal was given up; so many plans had failed for it.
     Unmet(Place, usize),
     /// An instance of a plan was made.
     Made {
         /// The new instance.
-        id: u16,
+        id: Number,
         /// Its plan.
         plan: usize,
         /// The event that it serves.
@@ -33,9 +33,9 @@ pub enum Deed {
     /// A goal was posted.
     Posted(Place),
     /// An instance succeeded.
-    Succeeded(u16),
+    Succeeded(Number),
     /// An instance failed.
-    Failed(u16),
+    Failed(Number),
 }
 
 /// What a call did, and the changes of the beliefs that took effect, in order.

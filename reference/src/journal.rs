@@ -5,7 +5,7 @@ use crate::answer::{Answer, Deed};
 use crate::belief::Change;
 use crate::literal::{Fact, Literal};
 use crate::refusal::Refusal;
-use crate::state::{Origin, Place};
+use crate::state::{Number, Origin, Place};
 
 /// The length of the longest readable line, `P 00000 +00000 00000 00000 00000`.
 const LONGEST_LINE: usize = 32;
@@ -18,7 +18,7 @@ pub enum Call {
     /// The agent may do one thing.
     Cycle,
     /// A device tells whether an action worked.
-    Outcome(u16, bool),
+    Outcome(Number, bool),
 }
 
 impl Call {
@@ -169,6 +169,11 @@ impl Journal {
     /// The agent after the lines so far.
     pub fn agent(&self) -> &Agent {
         &self.agent
+    }
+
+    /// The agent after the lines so far, once the journal is no longer needed.
+    pub fn into_agent(self) -> Agent {
+        self.agent
     }
 
     /// Answers one line, given without its newline.

@@ -7,6 +7,8 @@ use crate::refusal::Refusal;
 
 /// The most plans that a library has.
 pub const MOST_PLANS: usize = 32;
+/// The most bytes that an accepted library has.
+pub const LARGEST_LIBRARY: usize = 19_332;
 const MOST_STATES: usize = 16;
 /// The most alternatives, literals, actions or branches in one list.
 const MOST_ITEMS: usize = 4;
@@ -28,6 +30,25 @@ pub enum EventKind {
     Query,
 }
 
+impl EventKind {
+    /// The kind of a stored number, 0 to 4.
+    pub(crate) fn from_stored(number: u16) -> Option<Self> {
+        match number {
+            0 => Some(EventKind::Added),
+            1 => Some(EventKind::Removed),
+            2 => Some(EventKind::Told),
+            3 => Some(EventKind::Achieve),
+            4 => Some(EventKind::Query),
+            _ => None,
+        }
+    }
+
+    /// Whether an event of this kind is a goal.
+    pub fn is_goal(self) -> bool {
+        matches!(self, EventKind::Achieve | EventKind::Query)
+    }
+}
+
 /// What a branch does.
 #[derive(Clone, Copy, Debug, PartialEq, Eq)]
 pub enum BranchKind {
@@ -43,6 +64,17 @@ pub enum BranchKind {
     Query,
     /// Divides a length.
     Divide(Division),
+}
+
+impl BranchKind {
+    /// The kind of the goal that a branch posts, if it can post one.
+    pub fn goal(self) -> Option<EventKind> {
+        match self {
+            BranchKind::Achieve => Some(EventKind::Achieve),
+            BranchKind::Query => Some(EventKind::Query),
+            _ => None,
+        }
+    }
 }
 
 /// One way on from a state.
@@ -89,6 +121,8 @@ pub struct Plan {
 /// What an agent starts from.
 #[derive(Clone, Debug)]
 pub struct Library {
+    /// The bytes that it was decoded from.
+    pub bytes: Vec<u8>,
     /// The initial beliefs, oldest first.
     pub beliefs: Vec<Fact>,
     /// The plans, by number.
@@ -100,9 +134,9 @@ impl Library {
     pub fn decode(bytes: &[u8]) -> Result<Library, Refusal> {
         let contents = Reader(bytes).contents().ok_or(Refusal::Contents)?;
         let bodies = contents.bodies(bytes)?;
-        let beliefs = initial_beliefs(&contents.beliefs).ok_or(Refusal::InitialBelief)?;
+        let beliefs = table(&contents.beliefs).ok_or(Refusal::InitialBelief)?;
         let plans = bodies.into_iter().map(decode_plan).collect::<Option<_>>().ok_or(Refusal::Plan)?;
-        Ok(Library { beliefs, plans })
+        Ok(Library { bytes: bytes.to_vec(), beliefs, plans })
     }
 }
 
@@ -127,7 +161,8 @@ impl Contents {
     }
 }
 
-fn initial_beliefs(literals: &[Literal]) -> Option<Vec<Fact>> {
+/// The literals as a table of beliefs: ground, all different and without opposites.
+pub(crate) fn table(literals: &[Literal]) -> Option<Vec<Fact>> {
     let mut facts = Vec::with_capacity(MOST_BELIEFS);
     for literal in literals {
         let fact = literal.ground(&Bindings::default())?;
@@ -161,20 +196,20 @@ fn is_tree(states: &[Vec<Branch>]) -> bool {
 }
 
 /// Reads values off the front of the bytes; none where they end too early or break the layout.
-struct Reader<'a>(&'a [u8]);
+pub(crate) struct Reader<'a>(pub(crate) &'a [u8]);
 
 impl Reader<'_> {
-    fn number(&mut self) -> Option<u16> {
+    pub(crate) fn number(&mut self) -> Option<u16> {
         let (bytes, rest) = self.0.split_first_chunk()?;
         self.0 = rest;
         Some(u16::from_le_bytes(*bytes))
     }
 
-    fn count(&mut self, most: usize) -> Option<usize> {
+    pub(crate) fn count(&mut self, most: usize) -> Option<usize> {
         self.number().map(usize::from).filter(|count| *count <= most)
     }
 
-    fn items<T>(&mut self, count: usize, mut item: impl FnMut(&mut Self) -> Option<T>) -> Option<Vec<T>> {
+    pub(crate) fn items<T>(&mut self, count: usize, mut item: impl FnMut(&mut Self) -> Option<T>) -> Option<Vec<T>> {
         (0..count).map(|_| item(self)).collect()
     }
 
@@ -183,7 +218,7 @@ impl Reader<'_> {
         self.items(count, item)
     }
 
-    fn literal(&mut self) -> Option<Literal> {
+    pub(crate) fn literal(&mut self) -> Option<Literal> {
         Some(Literal::from_stored([self.number()?, self.number()?, self.number()?, self.number()?]))
     }
 
@@ -212,14 +247,7 @@ impl Reader<'_> {
     /// The kind of event, and the variable v where 16 × (v + 1) is added to it (document 02, request 12).
     fn trigger_kind(&mut self) -> Option<(EventKind, Option<u8>)> {
         let field = self.number()?;
-        let kind = match field % MARK {
-            0 => EventKind::Added,
-            1 => EventKind::Removed,
-            2 => EventKind::Told,
-            3 => EventKind::Achieve,
-            4 => EventKind::Query,
-            _ => return None,
-        };
+        let kind = EventKind::from_stored(field % MARK)?;
         match field / MARK {
             0 => Some((kind, None)),
             mark @ 1..=8 => Some((kind, Some(mark as u8 - 1))),

@@ -15,6 +15,11 @@ impl Symbol {
         Symbol(number)
     }
 
+    /// The number that stands for this symbol.
+    pub fn stored(self) -> u16 {
+        self.0
+    }
+
     /// Whether the sign is minus.
     pub fn is_negative(self) -> bool {
         self.0 & NEGATIVE != 0
@@ -64,6 +69,12 @@ impl Fact {
     pub fn opposite(self) -> Self {
         Fact { symbol: self.symbol.opposite(), ..self }
     }
+
+    /// The four numbers that stand for this fact.
+    pub fn stored(self) -> [u16; 4] {
+        let [first, second, third] = self.terms;
+        [self.symbol.stored(), first, second, third]
+    }
 }
 
 /// What each of the eight variables is bound to.
@@ -71,6 +82,24 @@ impl Fact {
 pub struct Bindings([Option<u16>; 8]);
 
 impl Bindings {
+    /// The bindings of eight stored numbers: each a constant or, where it is unbound, the variable itself.
+    pub(crate) fn from_stored(numbers: &[u16; 8]) -> Option<Self> {
+        let mut bindings = Bindings::default();
+        for (variable, (place, &number)) in (0..).zip(bindings.0.iter_mut().zip(numbers)) {
+            *place = match Term::from_stored(number) {
+                Term::Constant(constant) => Some(constant),
+                Term::Variable(unbound) if unbound == variable => None,
+                Term::Variable(_) => return None,
+            };
+        }
+        Some(bindings)
+    }
+
+    /// The eight numbers that stand for these bindings.
+    pub(crate) fn stored(&self) -> [u16; 8] {
+        std::array::from_fn(|variable| self.0[variable].unwrap_or(FIRST_VARIABLE + variable as u16))
+    }
+
     /// The constant that a variable is bound to.
     pub fn get(&self, variable: u8) -> Option<u16> {
         self.0[usize::from(variable)]

@@ -1,25 +1,31 @@
 //! Not proved: the program, on the file "library". Without words behind its name it is the journal: standard input in, a line out
-//! for each line. `endings PLAN N` tells how many lists of N answers end the body of a plan: succeeded, failed.
+//! for each line. `shift` is the same from the file "image", where there is one, and saves the agent to it when the input ends.
+//! `endings PLAN N` tells how many lists of N answers end the body of a plan: succeeded, failed.
 
 use reference::agent::Agent;
 use reference::endings::Endings;
+use reference::image;
 use reference::journal::{Journal, write_line};
 use reference::library::Library;
 use reference::refusal::Refusal;
 use std::ffi::OsString;
-use std::fs::File;
+use std::fs::{self, File};
 use std::io::{self, ErrorKind, Read, Write};
 use std::process::ExitCode;
 
 /// The most bytes that a library's file may have.
 const LARGEST_FILE: u64 = 65_535;
 const PIECE: usize = 1 << 16;
-const USAGE: &str = "usage: reference [endings PLAN N]";
+const IMAGE: &str = "image";
+/// What an image is written to before it takes the place of the old one.
+const NEW_IMAGE: &str = "image.new";
+const USAGE: &str = "usage: reference [shift | endings PLAN N]";
 const STATUS_OF_USAGE: u8 = 2;
 
 /// What the words behind the program's name ask for.
 enum Mode {
     Journal,
+    Shift,
     Endings { plan: u16, length: u16 },
 }
 
@@ -31,6 +37,7 @@ fn main() -> ExitCode {
     };
     let done = match mode {
         Mode::Journal => run_journal(),
+        Mode::Shift => run_shift(),
         Mode::Endings { plan, length } => write_endings(plan, length),
     };
     match done {
@@ -46,6 +53,7 @@ fn mode(words: &[OsString]) -> Option<Mode> {
     let words: Vec<&str> = words.iter().map(|word| word.to_str()).collect::<Option<_>>()?;
     match words[..] {
         [] => Some(Mode::Journal),
+        ["shift"] => Some(Mode::Shift),
         ["endings", plan, length] => Some(Mode::Endings { plan: number(plan)?, length: number(length)? }),
         _ => None,
     }
@@ -67,16 +75,36 @@ fn write_endings(plan: u16, length: u16) -> io::Result<()> {
 }
 
 fn run_journal() -> io::Result<()> {
+    run(from_library()).map(drop)
+}
+
+fn run_shift() -> io::Result<()> {
+    let image = match fs::read(IMAGE) {
+        Err(error) if error.kind() == ErrorKind::NotFound => None,
+        read => Some(read?),
+    };
+    match run(image.map_or_else(from_library, |image| image::restore(&image)))? {
+        Some(agent) => save(&agent),
+        None => Ok(()),
+    }
+}
+
+fn from_library() -> Result<Agent, Refusal> {
+    read("library").and_then(|library| Library::decode(&library)).map(Agent::new)
+}
+
+/// Answers the lines of the input; the agent after them, if there was one.
+fn run(agent: Result<Agent, Refusal>) -> io::Result<Option<Agent>> {
     let mut output = io::stdout().lock();
     let mut answers = Vec::with_capacity(PIECE);
-    let library = match read("library").and_then(|library| Library::decode(&library)) {
-        Ok(library) => library,
+    let agent = match agent {
+        Ok(agent) => agent,
         Err(refusal) => {
             write_line(&mut answers, &Err(refusal));
-            return output.write_all(&answers);
+            return output.write_all(&answers).map(|()| None);
         }
     };
-    let mut journal = Journal::new(Agent::new(library));
+    let mut journal = Journal::new(agent);
     let mut input = io::stdin().lock();
     let mut piece = vec![0; PIECE];
     loop {
@@ -92,7 +120,17 @@ fn run_journal() -> io::Result<()> {
     }
     journal.finish(&mut answers);
     output.write_all(&answers)?;
-    output.flush()
+    output.flush()?;
+    Ok(Some(journal.into_agent()))
+}
+
+/// Puts the agent's image in place of the old one, so that a power cut leaves one of the two.
+fn save(agent: &Agent) -> io::Result<()> {
+    let mut file = File::create(NEW_IMAGE)?;
+    file.write_all(&image::image(agent))?;
+    file.sync_all()?;
+    fs::rename(NEW_IMAGE, IMAGE)?;
+    File::open(".")?.sync_all()
 }
 
 /// The bytes of a library's file; one that is missing or cannot be read counts as empty.

@@ -1,6 +1,6 @@
 //! What is refused, by number (document 01, "Who may cause which refusal").
 
-/// Why a library, a line or a call is refused.
+/// Why a library, an image, a line or a call is refused.
 #[derive(Clone, Copy, Debug, PartialEq, Eq)]
 pub enum Refusal {
     /// The line is none of the three calls.
@@ -23,8 +23,14 @@ pub enum Refusal {
     NotWaiting = 8,
     /// The next event or instance would need a number past 65,535.
     NumbersSpent = 9,
+    /// The state is not well formed, or its library is refused.
+    NotWellFormed = 10,
     /// The library has no plan with this number.
     NoSuchPlan = 11,
+    /// An image's contents are not packed, a body does not fill its length, or it holds an unknown code.
+    Image = 12,
+    /// The buffer is too short for the image.
+    ImageRoom = 13,
     /// The list of answers asked about is over 15 long.
     ListTooLong = 15,
 }

@@ -3,11 +3,14 @@
 use crate::library::EventKind;
 use crate::literal::{Bindings, Fact};
 
+/// The number of an external event, or the id of an instance.
+pub type Number = u16;
+
 /// A branch of a state, as some instance met it.
-#[derive(Clone, Copy, Debug, PartialEq, Eq)]
+#[derive(Clone, Copy, Debug, PartialEq, Eq, Hash)]
 pub struct Place {
     /// The instance's id.
-    pub id: u16,
+    pub id: Number,
     /// The state of its plan's body.
     pub state: usize,
     /// The branch of that state.
@@ -15,10 +18,10 @@ pub struct Place {
 }
 
 /// Where an event came from.
-#[derive(Clone, Copy, Debug, PartialEq, Eq)]
+#[derive(Clone, Copy, Debug, PartialEq, Eq, Hash)]
 pub enum Origin {
     /// A report, by its number.
-    External(u16),
+    External(Number),
     /// A goal, by the branch that posted it.
     Goal(Place),
 }
@@ -53,7 +56,7 @@ pub enum Status {
 #[derive(Clone, Debug)]
 pub struct Instance {
     /// Its number, from 1.
-    pub id: u16,
+    pub id: Number,
     /// The number of its plan.
     pub plan: usize,
     /// The event for which it was made.

@@ -10,8 +10,9 @@ use lib.Dec.{eqb}
 use lib.ListN.{length, take, drop, getD, drop-of-length-le}
 use lib.Seq.{drop-cons}
 use borrow.Author.Tests.{eq-eqb, ne-eqb}
+use Rattle.command.specs.declared.Mode.{Mode}
 use Rattle.command.specs.declared.Mode.the-variants.{Journal, Endings, Unknown}
-use Rattle.command.specs.Mode.{same, endingsName, wordsOf, endingsBy, endingsMode, modeOf}
+use Rattle.command.specs.Mode.{same, wordsOf, endingsBy, oneWord, threeWords, modeOf}
 
 -- ---- The same bytes
 
@@ -48,30 +49,37 @@ no-length (some plan) e = sym (ap (endingsBy (some plan)) e)
 pub both : {p n : ℕ} {plan length : Option ℕ} → plan ≡ some p → length ≡ some n → Endings p n ≡ endingsBy plan length
 both {p} {n} {plan} {length} e f = sym (ap (λ (plan : Option ℕ). endingsBy plan length) e ∙ ap (endingsBy (some p)) f)
 
+-- ---- A mode's name, and another word
+
+pub is-named : {named : Bool} (mode other : Mode) → named ≡ true → mode ≡ cond named mode other
+is-named mode other e = sym (ap (λ (named : Bool). cond named mode other) e)
+
+pub not-named : {named : Bool} (mode other : Mode) → named ≡ false → other ≡ cond named mode other
+not-named mode other e = sym (ap (λ (named : Bool). cond named mode other) e)
+
 -- ---- How many words there are, with the program's name
 module _ (name first second : List ℕ) where
   pub no-words : (count : ℕ) → count ≤ 1 → Journal ≡ modeOf (wordsOf count name first second)
   unfolding wordsOf modeOf
   no-words count h = let none-left : count - 1 ≡ 0 = omega arith in rw none-left
 
-  not-three : (n : ℕ) → (n ≡ 0 → ⊥) → (n ≡ 3 → ⊥) → Unknown ≡ modeOf (take n (name ∷ first ∷ second ∷ [] ∷ []))
-  unfolding modeOf
-  not-three zero some-left other = absurd (some-left refl)
-  not-three (suc zero) some-left other = refl
-  not-three (suc (suc zero)) some-left other = refl
-  not-three (suc (suc (suc zero))) some-left other = absurd (other refl)
-  not-three (suc (suc (suc (suc n)))) some-left other = refl
-
-  pub other-words : (count : ℕ) → 1 < count → (count ≡ 4 → ⊥) → Unknown ≡ modeOf (wordsOf count name first second)
-  unfolding wordsOf
-  other-words count h other = not-three (count - 1) (λ e. omega arith) (λ e. other (omega arith))
-
-  three-words : (count : ℕ) → count ≡ 4 → modeOf (wordsOf count name first second) ≡ cond (same name endingsName) (endingsMode first second) Unknown
+  pub one-behind : (count : ℕ) → count ≡ 2 → oneWord name ≡ modeOf (wordsOf count name first second)
   unfolding wordsOf modeOf
-  three-words count e = rw e
+  one-behind count e = rw e
 
-  pub other-name : (count : ℕ) → count ≡ 4 → same name endingsName ≡ false → Unknown ≡ modeOf (wordsOf count name first second)
-  other-name count e h = sym (three-words count e ∙ ap (λ (b : Bool). cond b (endingsMode first second) Unknown) h)
+  pub three-behind : (count : ℕ) → count ≡ 4 → threeWords name first second ≡ modeOf (wordsOf count name first second)
+  unfolding wordsOf modeOf
+  three-behind count e = rw e
 
-  pub endings-name : (count : ℕ) → count ≡ 4 → same name endingsName ≡ true → endingsMode first second ≡ modeOf (wordsOf count name first second)
-  endings-name count e h = sym (three-words count e ∙ ap (λ (b : Bool). cond b (endingsMode first second) Unknown) h)
+  -- any other number of words
+  no-such : (n : ℕ) → (n ≡ 0 → ⊥) → (n ≡ 1 → ⊥) → (n ≡ 3 → ⊥) → Unknown ≡ modeOf (take n (name ∷ first ∷ second ∷ [] ∷ []))
+  unfolding modeOf
+  no-such zero some-left one three = absurd (some-left refl)
+  no-such (suc zero) some-left one three = absurd (one refl)
+  no-such (suc (suc zero)) some-left one three = refl
+  no-such (suc (suc (suc zero))) some-left one three = absurd (three refl)
+  no-such (suc (suc (suc (suc n)))) some-left one three = refl
+
+  pub other-words : (count : ℕ) → 1 < count → (count ≡ 2 → ⊥) → (count ≡ 4 → ⊥) → Unknown ≡ modeOf (wordsOf count name first second)
+  unfolding wordsOf
+  other-words count h one three = no-such (count - 1) (λ e. omega arith) (λ e. one (omega arith)) (λ e. three (omega arith))

@@ -1,4 +1,4 @@
--- What the words behind the program's name ask for (document 02, request 10, brings the first of them).
+-- What the words behind the program's name ask for (document 02: request 10 brings `endings`, request 3 `shift`).
 use Prim.Native.Nat.{ℕ, _-_}
 use mathlib.Core.Bool.{Bool, true, false, cond, _&&_}
 use mathlib.Core.Option.{Option, none, some}
@@ -7,7 +7,7 @@ use lib.Dec.{eqb}
 use lib.ListN.{take}
 use Rattle.reading.specs.Call.{number, largestNumber}
 use Rattle.command.specs.declared.Mode.{Mode}
-use Rattle.command.specs.declared.Mode.the-variants.{Journal, Endings, Unknown}
+use Rattle.command.specs.declared.Mode.the-variants.{Journal, Shift, Endings, Unknown}
 
 -- ---- Words
 
@@ -17,6 +17,10 @@ same [] [] = true
 same [] (b ∷ name) = false
 same (a ∷ word) [] = false
 same (a ∷ word) (b ∷ name) = eqb a b && same word name
+
+-- "shift"
+abbrev pub shiftName : List ℕ
+shiftName = 115 ∷ 104 ∷ 105 ∷ 102 ∷ 116 ∷ []
 
 -- "endings"
 abbrev pub endingsName : List ℕ
@@ -37,10 +41,21 @@ endingsBy (some plan) (some length) = Endings plan length
 unfoldable pub endingsMode : List ℕ → List ℕ → Mode
 endingsMode plan length = endingsBy (number largestNumber plan) (number largestNumber length)
 
--- no words: the journal; three, of which the first is `endings`; no others ask for anything
+-- modes of one word, and of three: a mode joins by a line
+unfoldable pub oneWord : List ℕ → Mode
+oneWord name =
+    cond (same name shiftName) Shift
+    Unknown
+
+unfoldable pub threeWords : List ℕ → List ℕ → List ℕ → Mode
+threeWords name first second =
+    cond (same name endingsName) (endingsMode first second)
+    Unknown
+
+-- no words: the journal; no mode has two words, or more than three
 unfoldable pub modeOf : List (List ℕ) → Mode
 modeOf [] = Journal
-modeOf (name ∷ []) = Unknown
+modeOf (name ∷ []) = oneWord name
 modeOf (name ∷ first ∷ []) = Unknown
-modeOf (name ∷ first ∷ second ∷ []) = cond (same name endingsName) (endingsMode first second) Unknown
+modeOf (name ∷ first ∷ second ∷ []) = threeWords name first second
 modeOf (name ∷ first ∷ second ∷ third ∷ more) = Unknown

@@ -1,11 +1,13 @@
 // The words behind the program's name, as what it is asked to do.
 ghost use mathlib.Core.Path.{_≡_};
-ghost use Rattle.command.specs.Mode.{same, wordsOf, endingsMode, modeOf};
+ghost use Rattle.command.specs.Mode.{same, wordsOf, endingsMode, oneWord, threeWords, modeOf};
 use reading::Word;
 
-// The journal; how a plan may end after lists of so many answers; or words that ask for nothing.
+// The journal; the journal of a shift, from image to image; how a plan may end after lists of so many answers; or words that ask for
+// nothing.
 pub enum Mode {
     Journal,
+    Shift,
     Endings { plan: u16, length: u16 },
     Unknown,
 }
@@ -40,6 +42,26 @@ fn endings_mode(plan: &[u8], length: &[u8]) -> Mode
     Mode::Endings { plan: p, length: n }
 }
 
+// Modes of one word.
+fn one_word(name: &[u8]) -> Mode
+    ensures { λ r. ⌜ r ≡ oneWord (now (name .entry)) ⌝ }
+{
+    if is_name(name, b"shift") {
+        return Mode::Shift;
+    }
+    Mode::Unknown
+}
+
+// Modes of three words.
+fn three_words(name: &[u8], first: &[u8], second: &[u8]) -> Mode
+    ensures { λ r. ⌜ r ≡ threeWords (now (name .entry)) (now (first .entry)) (now (second .entry)) ⌝ }
+{
+    if is_name(name, b"endings") {
+        return endings_mode(first, second);
+    }
+    Mode::Unknown
+}
+
 // By how many words there are, the program's own name among them, and the first three behind it.
 pub fn mode_of(count: usize, name: &[u8], first: &[u8], second: &[u8]) -> Mode
     ensures { λ r. ⌜ r ≡ modeOf (wordsOf count (now (name .entry)) (now (first .entry)) (now (second .entry))) ⌝ }
@@ -47,11 +69,11 @@ pub fn mode_of(count: usize, name: &[u8], first: &[u8], second: &[u8]) -> Mode
     if count <= 1 {
         return Mode::Journal;
     }
-    if count != 4 {
-        return Mode::Unknown;
+    if count == 2 {
+        return one_word(name);
     }
-    if !is_name(name, b"endings") {
-        return Mode::Unknown;
+    if count == 4 {
+        return three_words(name, first, second);
     }
-    endings_mode(first, second)
+    Mode::Unknown
 }

@@ -125,7 +125,7 @@ fn no_agent(state: State) -> Agent
 }
 
 // No agent is made.
-fn refused(refusal: u16) -> Loaded
+pub fn refused(refusal: u16) -> Loaded
     ensures { λ r. ⌜ r ≡ record { refusal = refusal; agent = noAgent } ⌝ }
 {
     let nothing = no_beliefs();

@@ -1,5 +1,7 @@
-// Reads and writes, made again where a signal interrupted them or where they would block.
-mod outcome;
+// Reads and writes, made again where a signal interrupted them or where they would block; and a file read as a whole.
+pub mod file;
+mod opened;
+pub mod outcome;
 mod pause;
 
 ghost use mathlib.Core.Path.{_≡_};
@@ -17,7 +19,7 @@ pub struct Moved {
     pub again: bool,
 }
 
-fn succeeded(count: usize) -> Moved
+pub fn succeeded(count: usize) -> Moved
     ensures { λ r. ⌜ r ≡ record { count = count; failed = false; again = false } ⌝ }
 {
     Moved {
@@ -38,7 +40,7 @@ fn failed(again: bool) -> Moved
 }
 
 // What is known of a call after it; waits where it would have blocked.
-fn settled(outcome: Outcome) -> Moved
+pub fn settled(outcome: Outcome) -> Moved
     ensures { λ r. ⌜ r ≡ movedBy outcome ⌝ }
 {
     match outcome {

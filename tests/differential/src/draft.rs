@@ -120,7 +120,8 @@ impl Library {
     }
 }
 
-fn stored(numbers: &[u16]) -> Vec<u8> {
+/// The bytes of numbers, the low byte first.
+pub fn stored(numbers: &[u16]) -> Vec<u8> {
     numbers.iter().flat_map(|number| number.to_le_bytes()).collect()
 }
 

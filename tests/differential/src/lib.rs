@@ -5,6 +5,7 @@
 pub mod coverage;
 pub mod damage;
 pub mod draft;
+pub mod images;
 pub mod ledger;
 pub mod lines;
 mod offcuts;

@@ -171,9 +171,7 @@ impl<'a> Writer<'a> {
         if facts.is_empty() {
             return None;
         }
-        let fact = *self.random.pick(facts);
-        let sign = if fact.symbol.is_negative() { 32_768 } else { 0 };
-        Some([fact.symbol.predicate() + sign, fact.terms[0], fact.terms[1], fact.terms[2]])
+        Some(self.random.pick(facts).stored())
     }
 
     fn waiting(&self) -> Vec<u16> {

@@ -6,7 +6,6 @@
 use differential::coverage::{Coverage, LETTERS, REFUSALS};
 use differential::ledger::{self, parse};
 use differential::programs::{Feed, Program};
-use differential::random::Random;
 use differential::scenario::{self, Scenario};
 use std::process::ExitCode;
 use std::time::Instant;
@@ -70,7 +69,7 @@ fn run(options: &Options) -> Result<(), String> {
     let reference = named(1, "REFERENCE", "target/cargo/release/reference")?;
     let mut coverage = Coverage::default();
     for seed in options.first..options.first + options.seeds {
-        compare(&scenario::valid(seed, &mut coverage), &proved, &reference, feed(seed))?;
+        compare(&scenario::valid(seed, &mut coverage), &proved, &reference, Feed::of(seed))?;
         compare(&scenario::damaged(seed, &mut coverage), &proved, &reference, Feed::Whole)?;
     }
     for seed in 0..options.long {
@@ -83,15 +82,6 @@ fn run(options: &Options) -> Result<(), String> {
     let missing = coverage.missing();
     let blind = if missing.is_empty() { Ok(()) } else { Err(format!("never came up: {}", missing.join(", "))) };
     if options.strict { blind } else { Ok(()) }
-}
-
-/// Most journals are fed whole, some in pieces of any size, some line by line with each answer waited for.
-fn feed(seed: u64) -> Feed {
-    match seed % 8 {
-        0 => Feed::Pieces(Random::new(seed)),
-        1 => Feed::Dialogue(Random::new(seed)),
-        _ => Feed::Whole,
-    }
 }
 
 fn compare(scenario: &Scenario, proved: &Program, reference: &Program, feed: Feed) -> Result<(), String> {
@@ -108,12 +98,7 @@ fn compare(scenario: &Scenario, proved: &Program, reference: &Program, feed: Fee
     let Some(library) = accepted else { return Ok(()) };
     let replayed = ledger::check(parse::beliefs(library), &scenario.input, &output);
     let replayed = replayed.map_err(|rule| format!("{name}: the journal by itself: {rule}"))?;
-    let sign = |negative: bool| if negative { 32_768 } else { 0 };
-    let stored = |fact: &reference::literal::Fact| {
-        let [first, second, third] = fact.terms;
-        [fact.symbol.predicate() + sign(fact.symbol.is_negative()), first, second, third]
-    };
-    let held: Vec<_> = scenario.beliefs.iter().map(stored).collect();
+    let held: Vec<_> = scenario.beliefs.iter().map(|fact| fact.stored()).collect();
     if replayed == held { Ok(()) } else { Err(format!("{name}: the replayed beliefs are not those held at the end")) }
 }
 

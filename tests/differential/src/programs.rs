@@ -23,6 +23,32 @@ pub enum Feed {
     Dialogue(Random),
 }
 
+/// What a shift starts from: the image where there is one, else the library.
+#[derive(Clone, Copy)]
+pub struct Files<'a> {
+    pub library: Option<&'a [u8]>,
+    pub image: Option<&'a [u8]>,
+}
+
+/// What comes of a shift.
+#[derive(PartialEq, Eq)]
+pub struct Shift {
+    pub output: Vec<u8>,
+    /// The image that the folder holds after it; none where there is none.
+    pub image: Option<Vec<u8>>,
+}
+
+impl Feed {
+    /// Most journals are fed whole, some in pieces of any size, some line by line with each answer waited for.
+    pub fn of(seed: u64) -> Feed {
+        match seed % 8 {
+            0 => Feed::Pieces(Random::new(seed)),
+            1 => Feed::Dialogue(Random::new(seed)),
+            _ => Feed::Whole,
+        }
+    }
+}
+
 /// A program, and the folder that it runs in.
 pub struct Program {
     path: PathBuf,
@@ -40,17 +66,26 @@ impl Program {
     /// What the program writes.
     pub fn run(&self, scenario: &Scenario, feed: Feed) -> Result<Vec<u8>, String> {
         self.prepare(scenario).map_err(|error| error.to_string())?;
+        self.fed(&[], &scenario.input, feed)
+    }
+
+    /// What the program writes with words behind its name, on an input that is also the folder's file.
+    fn fed(&self, words: &[&str], input: &[u8], feed: Feed) -> Result<Vec<u8>, String> {
         match feed {
-            Feed::Whole => self.whole(),
-            Feed::Pieces(random) => self.pieces(&scenario.input, random),
-            Feed::Dialogue(random) => self.dialogue(&scenario.input, random),
+            Feed::Whole => self.whole(words),
+            Feed::Pieces(random) => self.pieces(words, input, random),
+            Feed::Dialogue(random) => self.dialogue(words, input, random),
         }
     }
 
     /// Puts the library into the folder, or takes it out.
     pub fn hold(&self, library: Option<&[u8]>) -> io::Result<()> {
-        let file = self.folder.join("library");
-        match library {
+        self.put("library", library)
+    }
+
+    fn put(&self, name: &str, bytes: Option<&[u8]>) -> io::Result<()> {
+        let file = self.folder.join(name);
+        match bytes {
             Some(bytes) => fs::write(file, bytes),
             None => fs::remove_file(file).or_else(|error| match error.kind() {
                 io::ErrorKind::NotFound => Ok(()),
@@ -64,6 +99,24 @@ impl Program {
         collect(self.start(words, Stdio::null())?)
     }
 
+    /// One shift, or what other words make of the same files: what the program writes, and the image that it leaves.
+    pub fn shift(&self, words: &[&str], files: &Files, input: &[u8], feed: Feed) -> Result<Shift, String> {
+        self.hold(files.library)
+            .and_then(|()| self.put("image", files.image))
+            .and_then(|()| self.put("input", Some(input)))
+            .map_err(|error| error.to_string())?;
+        let output = self.fed(words, input, feed)?;
+        let left = fs::read_dir(&self.folder).map_err(|error| error.to_string())?;
+        for file in left.flatten().map(|file| file.file_name()) {
+            if file != "library" && file != "image" && file != "input" {
+                return Err(format!("it leaves {}", file.display()));
+            }
+        }
+        let image = fs::read(self.folder.join("image")).ok();
+        self.put("image", None).map_err(|error| error.to_string())?;
+        Ok(Shift { output, image })
+    }
+
     fn prepare(&self, scenario: &Scenario) -> io::Result<()> {
         self.hold(scenario.library.as_deref())?;
         fs::write(self.folder.join("input"), &scenario.input)
@@ -75,13 +128,13 @@ impl Program {
         command.spawn().map_err(|error| format!("{}: {error}", self.path.display()))
     }
 
-    fn whole(&self) -> Result<Vec<u8>, String> {
+    fn whole(&self, words: &[&str]) -> Result<Vec<u8>, String> {
         let input = File::open(self.folder.join("input")).map_err(|error| error.to_string())?;
-        collect(self.start(&[], input.into())?)
+        collect(self.start(words, input.into())?)
     }
 
-    fn pieces(&self, input: &[u8], mut random: Random) -> Result<Vec<u8>, String> {
-        let mut child = self.start(&[], Stdio::piped())?;
+    fn pieces(&self, words: &[&str], input: &[u8], mut random: Random) -> Result<Vec<u8>, String> {
+        let mut child = self.start(words, Stdio::piped())?;
         let stdin = child.stdin.take();
         let input = input.to_vec();
         let most = *random.pick(&[3, 50, 5_000]);
@@ -102,8 +155,8 @@ impl Program {
         output
     }
 
-    fn dialogue(&self, input: &[u8], mut random: Random) -> Result<Vec<u8>, String> {
-        let mut child = self.start(&[], Stdio::piped())?;
+    fn dialogue(&self, words: &[&str], input: &[u8], mut random: Random) -> Result<Vec<u8>, String> {
+        let mut child = self.start(words, Stdio::piped())?;
         let mut stdin = child.stdin.take().ok_or("no standard input")?;
         let stdout = child.stdout.take().ok_or("no standard output")?;
         let (sender, answers) = mpsc::channel();

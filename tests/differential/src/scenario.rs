@@ -9,6 +9,10 @@ use crate::random::Random;
 use reference::agent::Agent;
 use reference::journal::Journal;
 use reference::literal::Fact;
+use reference::refusal::Refusal;
+
+/// The most bytes that a library's file may have.
+pub const LARGEST_FILE: usize = 65_535;
 
 /// A library, a journal, and what is known of the answers.
 pub struct Scenario {
@@ -90,19 +94,30 @@ fn damage(random: &mut Random, kind: usize, coverage: &mut Coverage) -> (Option<
 
 /// What the reference answers, and its beliefs at the end if the library was accepted.
 fn answers(library: &[u8], input: &[u8]) -> (Vec<u8>, Option<Vec<Fact>>) {
-    if library.len() > 65_535 {
-        return (b"X 2\n".to_vec(), None);
-    }
-    match reference::library::Library::decode(library) {
+    match loaded(library) {
         Err(refusal) => (format!("X {}\n", refusal.number()).into_bytes(), None),
-        Ok(library) => {
-            let mut journal = Journal::new(Agent::new(library));
-            let mut output = vec![];
-            journal.feed(input, &mut output);
-            journal.finish(&mut output);
-            (output, Some(journal.agent().beliefs().facts().to_vec()))
+        Ok(agent) => {
+            let (output, agent) = fed(agent, input);
+            (output, Some(agent.beliefs().facts().to_vec()))
         }
     }
+}
+
+/// The reference's agent of a library's file.
+pub fn loaded(library: &[u8]) -> Result<Agent, Refusal> {
+    if library.len() > LARGEST_FILE {
+        return Err(Refusal::Packing);
+    }
+    reference::library::Library::decode(library).map(Agent::new)
+}
+
+/// The reference's answers to an input, and the agent after it.
+pub fn fed(agent: Agent, input: &[u8]) -> (Vec<u8>, Agent) {
+    let mut journal = Journal::new(agent);
+    let mut output = vec![];
+    journal.feed(input, &mut output);
+    journal.finish(&mut output);
+    (output, journal.into_agent())
 }
 
 /// A journal that spends the numbers of events (even) or of instances (odd).

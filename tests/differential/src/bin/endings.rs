@@ -9,7 +9,7 @@ use differential::draft::{Branch, Library, V0};
 use differential::plans::{Theme, library};
 use differential::programs::Program;
 use differential::random::Random;
-use differential::scenario;
+use differential::scenario::{self, LARGEST_FILE};
 use reference::endings::{Endings, LONGEST_LIST};
 use reference::refusal::Refusal;
 use std::collections::BTreeMap;
@@ -21,8 +21,6 @@ const DEFAULT_SEEDS: u64 = 20;
 const DAMAGED: u64 = 3;
 const MOST_STATES: usize = 16;
 const MOST_BRANCHES: usize = 4;
-/// The most bytes that a library's file may have.
-const LARGEST_FILE: usize = 65_535;
 /// What the run is to reach.
 const WANTED: &[&str] = &[
     "X 1",

@@ -10,21 +10,14 @@ use lib.IntN.{ℤ, pos, negsuc}
 use lib.ListN.{length}
 use lib.Signed.{leZ}
 use mir.Syntax.{w32, w64}
-use mir.Val.{SFits, ofZ, toZ}
+use mir.Val.{ofZ}
 use mir.ValLaws.{toZ-ofZ}
 use Rattle.io.specs.Counts.{clamped}
 use Rattle.transfer.specs.declared.outcome.Outcome.the-variants.{Moved, Never}
 use Rattle.transfer.specs.Outcome.{againAfter, outcomeOf, interrupted, wouldBlock}
+use Rattle.transfer.proofs.BitLaws.{read-back, sign-back}
 use Rattle.transfer.proofs.outcome.outcome_of.Statement.{statement}
 use Rattle.transfer.proofs.outcome.outcome_of.Tie as tie
-
--- ---- The number of these bits
-
-read-back : (error : ℤ) → SFits w32 error → (n : ℕ) → ofZ w32 error ≡ n → toZ w32 n ≡ error
-read-back error f n e = ap (toZ w32) (sym e) ∙ toZ-ofZ w32 error f
-
-sign-back : (got : ℤ) → SFits w64 got → (b : Bool) → leZ (pos 0) (toZ w64 (ofZ w64 got)) ≡ b → leZ (pos 0) got ≡ b
-sign-back got f b e = ap (leZ (pos 0)) (sym (toZ-ofZ w64 got f)) ∙ e
 
 -- ---- By the sign of the answer
 
@@ -53,27 +46,27 @@ returns c =
     let at = (c .before .before .before) in
     let same = toZ-ofZ w64 (at .args .got) (at .fits .got) in
     ap Moved ((c .count) .ensures .1 ∙ ap (λ got. clamped got (length (at .args .lent .now))) same)
-    ∙ moved (at .args .got) (at .args .error) _ (sign-back (at .args .got) (at .fits .got) true (c .before .if1 .taken))
+    ∙ moved (at .args .got) (at .args .error) _ (sign-back w64 (at .args .got) (at .fits .got) true (c .before .if1 .taken))
 
 returns-2 : tie.Need-returns-2
 unfolding againAfter
 returns-2 c =
     let at = (c .before .before .before) in
-    ap againAfter (read-back (at .args .error) (at .fits .error) interrupted (c .if2 .taken))
-    ∙ failed (at .args .got) (at .args .error) _ (sign-back (at .args .got) (at .fits .got) false (c .before .if1 .left))
+    ap againAfter (read-back w32 (at .args .error) (at .fits .error) interrupted (c .if2 .taken))
+    ∙ failed (at .args .got) (at .args .error) _ (sign-back w64 (at .args .got) (at .fits .got) false (c .before .if1 .left))
 
 returns-3 : tie.Need-returns-3
 unfolding againAfter
 returns-3 c =
     let at = (c .before .before .before .before) in
-    ap againAfter (read-back (at .args .error) (at .fits .error) wouldBlock (c .if3 .taken))
-    ∙ failed (at .args .got) (at .args .error) _ (sign-back (at .args .got) (at .fits .got) false (c .before .before .if1 .left))
+    ap againAfter (read-back w32 (at .args .error) (at .fits .error) wouldBlock (c .if3 .taken))
+    ∙ failed (at .args .got) (at .args .error) _ (sign-back w64 (at .args .got) (at .fits .got) false (c .before .before .if1 .left))
 
 returns-4 : tie.Need-returns-4
 returns-4 c =
     let at = (c .before .before .before .before) in
     never (at .args .error) (c .before .if2 .left) (c .if3 .left)
-    ∙ failed (at .args .got) (at .args .error) _ (sign-back (at .args .got) (at .fits .got) false (c .before .before .if1 .left))
+    ∙ failed (at .args .got) (at .args .error) _ (sign-back w64 (at .args .got) (at .fits .got) false (c .before .before .if1 .left))
 
 pub outcome-of-spec : {M : Type 1} → statement M
 outcome-of-spec = tie.close (tie.spec count-requires returns returns-2 returns-3 returns-4)

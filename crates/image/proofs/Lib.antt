@@ -1,0 +1,15 @@
+pub mod WordLaws
+pub mod CodecLaws
+pub mod EventLaws
+pub mod StackLaws
+pub mod RowLaws
+pub mod PartLaws
+pub mod SameLaws
+pub mod WholeLaws
+pub mod ImageLaws
+pub mod Storing
+pub mod ReadLaws
+pub mod SaveLaws
+pub mod RestoreLaws
+pub mod AgentLaws
+pub mod Cases

@@ -1,0 +1,11 @@
+pub mod Words
+pub mod BeliefImage
+pub mod EventImage
+pub mod Rows
+pub mod StackImage
+pub mod Image
+pub mod Reads
+pub mod Writes
+pub mod Saves
+pub mod Restores
+pub mod Cases

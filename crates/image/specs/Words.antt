@@ -1,0 +1,59 @@
+-- Numbers and lists in an image (docs/IMAGE-FORMAT.md; document 02, request 3). dMARS has no such schema.
+use Prim.Native.Nat.{ℕ, _+_, _*_, _/_, _%_, min}
+use mathlib.Core.List.{List, [], _∷_, _++_}
+use lib.ListN.{length}
+use Rattle.lists.specs.Counts.{each}
+use Rattle.library.specs.Bytes.{u16At, items}
+
+-- ---- Numbers of 16 bits, the low byte first
+
+-- how many bytes one has
+abbrev pub wordSize : ℕ
+wordSize = 2
+
+abbrev pub wordBytes : ℕ → List ℕ
+wordBytes n = n % 256 ∷ n / 256 ∷ []
+
+-- the bytes of a list of them
+abbrev pub wordsBytes : List ℕ → List ℕ
+wordsBytes words = each wordBytes words
+
+-- how many bytes they have
+abbrev pub wordsSize : List ℕ → ℕ
+wordsSize words = wordSize * length words
+
+-- ---- Numbers of 32 bits, as two of 16 bits, the low one first
+
+abbrev pub longWords : ℕ → List ℕ
+longWords n = n % 65536 ∷ n / 65536 ∷ []
+
+abbrev pub longAt : List ℕ → ℕ → ℕ
+longAt bytes at = u16At bytes at + 65536 * u16At bytes (at + wordSize)
+
+-- ---- The number of an external event or of an instance, and how many there were
+
+-- how many bytes it has
+abbrev pub numberSize : ℕ
+numberSize = wordSize
+
+abbrev pub numberBytes : ℕ → List ℕ
+numberBytes n = wordBytes n
+
+abbrev pub numberAt : List ℕ → ℕ → ℕ
+numberAt bytes at = u16At bytes at
+
+-- ---- Offsets
+
+-- what is read of an image stands before this offset: a body begins at 65,535 at most
+abbrev pub farthest : ℕ
+farthest = 100000
+
+-- ---- Lists: how many items, then them
+
+module _ {A : Type 0} where
+  abbrev pub listBytes : (A → List ℕ) → List A → List ℕ
+  listBytes write xs = wordBytes (length xs) ++ each write xs
+
+  -- items of one size, at most so many
+  abbrev pub listAt : (List ℕ → ℕ → A) → ℕ → ℕ → List ℕ → ℕ → List A
+  listAt read size most bytes at = items (read bytes) size (min (u16At bytes at) most) (at + wordSize)
