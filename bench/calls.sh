@@ -1,5 +1,5 @@
 #!/usr/bin/env bash
-# Times the agent's public cycle by itself, a million times and idle: on an agent without events, and beside one waiting stack.
+# Times the agent's public cycle by itself, a million times and idle: without events, beside one waiting stack, with the largest library.
 #   bench/calls.sh [RUNS]     prints microseconds a cycle, processor time, for each of RUNS runs (5 unless given)
 set -euo pipefail
 cd "$(dirname "$0")/.."
@@ -7,10 +7,13 @@ runs=${1:-5}
 
 # shellcheck source=bench/scratch.sh
 . bench/scratch.sh
+# shellcheck source=bench/largest.sh
+. bench/largest.sh
 scratch cycles "$(sed -n 's/^canarystand: //p' crates.txt)"
 
 cat > "$copy/crates/cycles/src/main.rt" << 'END'
-// A million cycles by the agent's public call: on an agent without events, or, where there is any input, beside one waiting stack.
+// A million cycles by the agent's public call: on an agent without events; beside one waiting stack where the input has a byte; with
+// the library of the input where it has more.
 use agent::calls;
 use libc::STDIN_FILENO;
 use libc::STDOUT_FILENO;
@@ -45,9 +48,14 @@ fn main() {
         248, 255, 0, 0, 0, 0, 0, 0, 2, 0, 1, 0, 2, 0, 9, 0, 248, 255, 0, 0, 0, 0, 1, 0, 0, 0,
     ]);
     let mut agent = loaded.agent;
-    let mut input = [0u8; 1];
-    if 0 < io::read_full(STDIN_FILENO, &mut input) {
+    let mut input = io::large_buffer();
+    let n = io::read_full(STDIN_FILENO, &mut input);
+    if n == 1 {
         agent = reported(agent);
+    }
+    if 1 < n && n <= input.len() {
+        let given = load::load(&input[..n]);
+        agent = given.agent;
     }
     let last = run(agent, 1000000);
     if last.length == 0 {
@@ -94,6 +102,8 @@ run-spec =
 END
 
 built cycles
-echo . > "$copy/input"
+printf . > "$copy/input"
+largest_library "$copy/largest"
 cost cycles 'without events' /dev/null "$runs"
 cost cycles 'beside one waiting stack' "$copy/input" "$runs"
+cost cycles 'with the largest library' "$copy/largest" "$runs"

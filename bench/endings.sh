@@ -7,6 +7,8 @@ runs=${1:-5}
 
 # shellcheck source=bench/scratch.sh
 . bench/scratch.sh
+# shellcheck source=bench/largest.sh
+. bench/largest.sh
 scratch lengths "$(sed -n 's/^endings: //p' crates.txt) endings io os libc"
 
 cat > "$copy/crates/lengths/src/main.rt" << 'END'
@@ -72,37 +74,6 @@ run-spec =
 END
 built lengths
 
-# two: a number in 16 bits, low byte first
-two() {
-    # shellcheck disable=SC2059 # a format made of two escapes
-    printf "$(printf '\\x%02x\\x%02x' $(($1 % 256)) $(($1 / 256)))"
-}
-numbers() { for n in "$@"; do two "$n"; done; }
-literal() { numbers "$1" "$2" 0 0; }
-
-# a situation of four alternatives of four literals, a list of four actions, and a body of 16 states with 15 branches: 584 bytes
-situation() { two 4; for _ in 1 2 3 4; do two 4; for _ in 1 2 3 4; do literal 1 65528; done; done; }
-actions() { two 4; for _ in 1 2 3 4; do two 0; literal 1 65528; done; }
-body() {
-    local next=1 state branch
-    two 16
-    for state in 4 4 4 3 0 0 0 0 0 0 0 0 0 0 0 0; do
-        two "$state"
-        for ((branch = 0; branch < state; branch++)); do
-            two 2; literal 1 65528; two "$next"
-            next=$((next + 1))
-        done
-    done
-}
-{ two 2; literal 1 65528; situation; situation; actions; actions; body; } > "$copy/plan"
-
-# 32 such plans and 64 beliefs: 19,332 bytes
-{
-    numbers 32 64
-    for ((plan = 0; plan < 32; plan++)); do numbers $((644 + 584 * plan)) 584; done
-    for ((belief = 0; belief < 64; belief++)); do literal 2 "$belief"; done
-    for ((plan = 0; plan < 32; plan++)); do cat "$copy/plan"; done
-} > "$copy/largest"
-
+largest_library "$copy/largest"
 cost lengths 'largest library' "$copy/largest" "$runs"
 cost lengths 'a library of two bodies, 484 bytes' tests/endings/largest-body/library "$runs"

@@ -215,6 +215,15 @@ pub fn runs() -> Vec<Case> {
     ]
 }
 
+/// The rows whose lines come one at a time: nearly all that a line costs is reading the library anew, and the system's calls.
+pub fn lines() -> Vec<Case> {
+    let cycles = IDLE.repeat(20_000);
+    vec![
+        Case::new("library of 58 bytes, idle cycles", &example(), &cycles[..]),
+        Case::new("largest library, idle cycles", &largest(), &cycles[..]),
+    ]
+}
+
 /// So many jobs of a tower, all waiting at their last floor.
 fn waiting(stacks: usize, height: usize) -> String {
     "P 2 +20 1 0 0\n".repeat(stacks) + &"C\n".repeat(3 * stacks * height)

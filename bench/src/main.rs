@@ -1,11 +1,12 @@
 //! Times the proved program and the reference on the same journals, turn about, and prints tables for docs/BENCHMARKS.md.
 //!
-//! `bench PROVED REFERENCE [RUNS]`; a program that does not exist is left out. Times are the least of RUNS runs.
+//! `bench [lines] PROVED REFERENCE [RUNS]`; a program that does not exist is left out. Times are the least of RUNS runs.
+//! With `lines` it prints what a line costs that comes by itself, and nothing else.
 
 use bench::cases::{self, Case};
 use bench::measure::{Folder, Measured};
 use std::collections::BTreeSet;
-use std::path::PathBuf;
+use std::path::{Path, PathBuf};
 use std::process::ExitCode;
 
 /// How many lines of a journal callgrind sees.
@@ -28,15 +29,17 @@ struct Bench {
 }
 
 fn main() -> ExitCode {
-    let words: Vec<String> = std::env::args().skip(1).collect();
+    let mut words: Vec<String> = std::env::args().skip(1).collect();
+    let by_line = words.first().is_some_and(|word| word == "lines");
+    words.drain(..usize::from(by_line));
     let runs = words.get(2).map_or(Some(5), |runs| runs.parse().ok());
     let ([proved, reference, ..], Some(runs)) = (&words[..], runs) else {
-        eprintln!("usage: bench PROVED REFERENCE [RUNS]");
+        eprintln!("usage: bench [lines] PROVED REFERENCE [RUNS]");
         return ExitCode::from(2);
     };
     let program = |path: &String| std::fs::canonicalize(path).ok();
     let bench = Folder::new().map(|folder| Bench { folder, programs: [program(proved), program(reference)], runs });
-    match bench.and_then(|bench| bench.tables()) {
+    match bench.and_then(|bench| if by_line { bench.lines() } else { bench.tables() }) {
         Ok(()) => ExitCode::SUCCESS,
         Err(error) => {
             eprintln!("{error}");
@@ -90,6 +93,38 @@ impl Bench {
         Ok(())
     }
 
+    /// The cost of a line that comes by itself, without that of starting and loading.
+    fn lines(&self) -> Measured<()> {
+        println!("| Journal, a line at a time | Lines | Letters | Reference µs | Proved µs | Ratio |");
+        println!("|---|---:|---|---:|---:|---:|");
+        for case in cases::lines() {
+            let letters = self.letters(&case)?;
+            let whole = self.least(|program| self.folder.time_of_lines(program, &case.input))?;
+            let start = self.least(|program| self.folder.time_of_lines(program, b""))?;
+            let cost = |place: usize| {
+                let nanoseconds = whole[place]?.saturating_sub(start[place]?) / case.lines() as u64;
+                Some(Cost { nanoseconds, instructions: 0 })
+            };
+            let times = compared([cost(0), cost(1)], |cost| cost.nanoseconds, 1e3);
+            println!("| {} | {} | {letters} | {times} |", case.name, case.lines());
+        }
+        Ok(())
+    }
+
+    /// The least of some runs of each program, turn about.
+    fn least(&self, time: impl Fn(&Path) -> Measured<u64>) -> Measured<[Option<u64>; 2]> {
+        let mut least = [None; 2];
+        for _ in 0..self.runs {
+            for (least, program) in least.iter_mut().zip(&self.programs) {
+                if let Some(program) = program {
+                    let taken = time(program)?;
+                    *least = Some(least.map_or(taken, |least: u64| least.min(taken)));
+                }
+            }
+        }
+        Ok(least)
+    }
+
     /// The cost of a line, without that of starting and loading.
     fn growth(&self, case: &Case) -> Measured<()> {
         let letters = self.letters(case)?;
@@ -119,18 +154,11 @@ impl Bench {
 
     /// The same on what the folder holds, with words behind the programs' names; `shorten` comes before instructions are counted.
     fn costs_in_folder(&self, words: &[&str], shorten: impl FnOnce() -> Measured<()>) -> Measured<[Option<Cost>; 2]> {
-        let mut least = [u64::MAX; 2];
-        for _ in 0..self.runs {
-            for (least, program) in least.iter_mut().zip(&self.programs) {
-                if let Some(program) = program {
-                    *least = self.folder.time(program, words)?.min(*least);
-                }
-            }
-        }
+        let least = self.least(|program| self.folder.time(program, words))?;
         shorten()?;
         let cost = |place: usize| -> Measured<Option<Cost>> {
-            let Some(program) = &self.programs[place] else { return Ok(None) };
-            Ok(Some(Cost { nanoseconds: least[place], instructions: self.folder.instructions(program, words)? }))
+            let (Some(program), Some(nanoseconds)) = (&self.programs[place], least[place]) else { return Ok(None) };
+            Ok(Some(Cost { nanoseconds, instructions: self.folder.instructions(program, words)? }))
         };
         Ok([cost(0)?, cost(1)?])
     }

@@ -1,9 +1,9 @@
 //! Processor time and instructions of a program.
 
 use std::fs::{self, File};
-use std::io::Read;
+use std::io::{BufRead, BufReader, Read, Write};
 use std::path::{Path, PathBuf};
-use std::process::{Command, Stdio};
+use std::process::{Child, Command, Stdio};
 
 pub type Measured<T> = Result<T, Box<dyn std::error::Error>>;
 
@@ -47,12 +47,24 @@ impl Folder {
         if let Some(mut stderr) = child.stderr.take() {
             stderr.read_to_string(&mut errors)?;
         }
-        let counted = fs::read_to_string(format!("/proc/{}/schedstat", child.id()))?;
-        let status = child.wait()?;
-        if !status.success() {
-            return Err(format!("{}: {status} {errors}", program.display()).into());
+        counted(child, program, &errors)
+    }
+
+    /// The same where each line is written into a pipe once the line before it is answered.
+    pub fn time_of_lines(&self, program: &Path, input: &[u8]) -> Measured<u64> {
+        let mut command = Command::new(program);
+        command.current_dir(&self.0).stdin(Stdio::piped()).stdout(Stdio::piped());
+        let mut child = command.spawn()?;
+        let (Some(mut stdin), Some(stdout)) = (child.stdin.take(), child.stdout.take()) else { return Err("no pipes".into()) };
+        let mut answers = BufReader::new(stdout);
+        let mut answer = Vec::new();
+        for line in input.split_inclusive(|byte| *byte == b'\n') {
+            stdin.write_all(line)?;
+            answers.read_until(b'\n', &mut answer)?;
         }
-        Ok(counted.split(' ').next().unwrap_or_default().parse()?)
+        drop(stdin);
+        answers.read_to_end(&mut answer)?;
+        counted(child, program, "")
     }
 
     /// Instructions, by callgrind.
@@ -70,6 +82,16 @@ impl Folder {
     pub fn answers(&self, program: &Path, words: &[&str]) -> Measured<Vec<u8>> {
         Ok(self.command(program, words)?.stdout(Stdio::piped()).output()?.stdout)
     }
+}
+
+/// The nanoseconds of a process whose output has ended.
+fn counted(mut child: Child, program: &Path, errors: &str) -> Measured<u64> {
+    let counted = fs::read_to_string(format!("/proc/{}/schedstat", child.id()))?;
+    let status = child.wait()?;
+    if !status.success() {
+        return Err(format!("{}: {status} {errors}", program.display()).into());
+    }
+    Ok(counted.split(' ').next().unwrap_or_default().parse()?)
 }
 
 impl Drop for Folder {

@@ -9,3 +9,4 @@ pub mod ParserLaws
 pub mod Cases
 pub mod Shift
 pub mod Largest
+pub mod CountLaws

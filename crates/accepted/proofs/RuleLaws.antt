@@ -1,17 +1,17 @@
 -- The steps of the loops that test the rules for a plan.
 use Prim.Native.Nat.{ℕ, zero, suc, _+_, _*_, _-_, _<_, _≤_}
-use mathlib.Core.Path.{_≡_, refl, sym, _∙_}
-use mathlib.Core.Bool.{Bool, true, false}
+use mathlib.Core.Path.{_≡_, refl, ap}
+use mathlib.Core.Bool.{Bool, true, false, cond}
 use mathlib.Core.List.{List}
 use native.Mathlib.Numerals.{sub-one}
 use native.Mathlib.Omega.{arith}
-use borrow.Author.Tests.{le-leb, lt-leb, eq-eqb, ne-eqb}
+use borrow.Author.Tests.{le-leb, lt-leb}
 use lib.Dec.{ltb}
 use Rattle.lists.specs.Search.{all}
 use Rattle.library.specs.declared.Branch.{Branch}
-use Rattle.library.specs.Bytes.{u16At, literalAt, actionAt, branchAt, items, rows}
-use Rattle.library.specs.Layout.{situationAt, actionsAt, statesAt}
-use Rattle.accepted.specs.Rules.{atMost, situationOk, actionOk, actionsOk, literalOk, branchOk, stateOk, statesFrom, entriesIn, entries, enteredOnce, isTree, statesOk, numbers}
+use Rattle.library.specs.Bytes.{u16At, literalAt, actionAt, branchAt, items, rows, rowsEnd}
+use Rattle.library.specs.Layout.{situationAt, situationEnd, actionsAt, actionsEnd, statesAt, statesEnd}
+use Rattle.accepted.specs.Rules.{atMost, situationOk, actionOk, actionsOk, literalOk, branchOk, stateOk, statesFrom, isTree, statesOk}
 use Rattle.library.proofs.RowLaws.{length-items, length-rows}
 
 -- ---- Rows of at most four items
@@ -33,6 +33,30 @@ module _ {A : Type 0} (read : ℕ → A) (bytes : List ℕ) (width : ℕ) where
   short-done zero at h = refl
   short-done (suc n) at h = absurd (omega arith)
 
+-- ---- Ends, which are 0 where a part breaks its rules
+
+pub went : (ok : Bool) (end r : ℕ) → r ≡ cond ok end 0 → (r ≡ 0 → ⊥) → (ok ≡ true) × (r ≡ end)
+went true end r e h = (refl, e)
+went false end r e h = absurd (h e)
+
+pub stuck : (ok : Bool) (end r : ℕ) → 0 < end → r ≡ cond ok end 0 → r ≡ 0 → ok ≡ false
+stuck true end r h e z = absurd (omega arith)
+stuck false end r h e z = refl
+
+pub end-behind : (bytes : List ℕ) (width n at : ℕ) → at ≤ rowsEnd bytes width n at
+unfolding rowsEnd
+end-behind bytes width zero at = omega arith
+end-behind bytes width (suc n) at =
+    let later = end-behind bytes width n (at + 2 + width * u16At bytes at) in
+    omega arith
+
+-- a part that breaks its rules ends nowhere, and one that keeps them where it ends
+pub broken : (ok : Bool) (end : ℕ) → false ≡ ok → 0 ≡ cond ok end 0
+broken ok end e = ap (λ (b : Bool). cond b end 0) e
+
+pub kept : (ok : Bool) (end r : ℕ) → ok ≡ true → r ≡ end → r ≡ cond ok end 0
+kept ok end r e p = rw e p
+
 -- ---- Situations and actions, by their number
 
 module _ (bytes : List ℕ) (at count : ℕ) (e : count ≡ u16At bytes at) where
@@ -51,6 +75,23 @@ module _ (bytes : List ℕ) (at count : ℕ) (e : count ≡ u16At bytes at) wher
   pub actions-few : count ≤ 4 → all actionOk (items (actionAt bytes) 10 count (at + 2)) ≡ actionsOk (actionsAt bytes at)
   unfolding actionsOk actionsAt
   actions-few few = rw (← e, length-items (actionAt bytes) 10 count (at + 2), le-leb count 4 few)
+
+module _ (bytes : List ℕ) (at : ℕ) where
+  pub situation-end : (count : ℕ) → count ≡ u16At bytes at → rowsEnd bytes 8 count (at + 2) ≡ situationEnd bytes at
+  unfolding situationEnd
+  situation-end count e = rw e
+
+  pub situation-somewhere : 0 < situationEnd bytes at
+  unfolding situationEnd
+  situation-somewhere = let later = end-behind bytes 8 (u16At bytes at) (at + 2) in omega arith
+
+  pub actions-end : (count : ℕ) → count ≡ u16At bytes at → at + 2 + 10 * count ≡ actionsEnd bytes at
+  unfolding actionsEnd
+  actions-end count e = rw e
+
+  pub actions-somewhere : 0 < actionsEnd bytes at
+  unfolding actionsEnd
+  actions-somewhere = omega arith
 
 -- ---- A branch, test by test
 
@@ -102,43 +143,16 @@ module _ (count : ℕ) (read : ℕ → Branch) (bytes : List ℕ) (width : ℕ) 
   states-done zero state at h = refl
   states-done (suc n) state at h = absurd (omega arith)
 
--- ---- How many branches lead to a state
-
-module _ (state : ℕ) (read : ℕ → Branch) (width : ℕ) where
-  pub in-hit : (found n at next : ℕ) → next ≡ read at .next → 0 < n → next ≡ state
-      → found + 1 + entriesIn state (items read width (n - 1) (at + width)) ≡ found + entriesIn state (items read width n at)
-  unfolding entriesIn items
-  in-hit found zero at next p h e = absurd (omega arith)
-  in-hit found (suc n) at next p h e = simp (sub-one, eq-eqb _ _ (sym p ∙ e)) (omega arith)
-
-  pub in-miss : (found n at next : ℕ) → next ≡ read at .next → 0 < n → (next ≡ state → ⊥)
-      → found + entriesIn state (items read width (n - 1) (at + width)) ≡ found + entriesIn state (items read width n at)
-  unfolding entriesIn items
-  in-miss found zero at next p h e = absurd (omega arith)
-  in-miss found (suc n) at next p h e = simp (sub-one, ne-eqb _ _ (λ q. e (p ∙ q))) (omega arith)
-
-  pub in-done : (found n at : ℕ) → n ≤ 0 → found ≡ found + entriesIn state (items read width n at)
-  unfolding entriesIn items
-  in-done found zero at h = omega arith
-  in-done found (suc n) at h = absurd (omega arith)
-
-module _ (state : ℕ) (read : ℕ → Branch) (bytes : List ℕ) (width : ℕ) where
-  pub entries-step : (found here n at branches : ℕ) → branches ≡ u16At bytes at → 0 < n → here ≡ entriesIn state (items read width branches (at + 2))
-      → found + here + entries state (rows read bytes width (n - 1) (at + 2 + width * branches)) ≡ found + entries state (rows read bytes width n at)
-  unfolding entries rows
-  entries-step found here zero at branches e h p = absurd (omega arith)
-  entries-step found here (suc n) at branches e h p = simp (sub-one, ← e, p) (omega arith)
-
-  pub entries-done : (found n at : ℕ) → n ≤ 0 → found ≡ found + entries state (rows read bytes width n at)
-  unfolding entries rows
-  entries-done found zero at h = omega arith
-  entries-done found (suc n) at h = absurd (omega arith)
-
-pub tree-whole : (read : ℕ → Branch) (bytes : List ℕ) (width n at : ℕ) → all (enteredOnce (rows read bytes width n at)) (numbers (n - 1) 1) ≡ isTree (rows read bytes width n at)
-unfolding isTree
-tree-whole read bytes width n at = rw (length-rows read bytes width n at)
-
 -- ---- A body, test by test
+
+module _ (bytes : List ℕ) (at : ℕ) where
+  pub states-end : (count : ℕ) → count ≡ u16At bytes at → rowsEnd bytes 12 count (at + 2) ≡ statesEnd bytes at
+  unfolding statesEnd
+  states-end count e = rw e
+
+  pub states-somewhere : 0 < statesEnd bytes at
+  unfolding statesEnd
+  states-somewhere = let later = end-behind bytes 12 (u16At bytes at) (at + 2) in omega arith
 
 module _ (bytes : List ℕ) (at count : ℕ) (e : count ≡ u16At bytes at) where
   pub states-none : count < 1 → false ≡ statesOk (statesAt bytes at)

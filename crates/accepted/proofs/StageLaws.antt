@@ -1,14 +1,15 @@
 -- The steps of the loops that test the stages of a refusal, and each stage's ways.
 use Prim.Native.Nat.{ℕ, zero, suc, _+_, _*_, _-_, _<_, _≤_}
-use mathlib.Core.Path.{_≡_, refl}
-use mathlib.Core.Bool.{Bool, true, false}
-use mathlib.Core.List.{List}
+use mathlib.Core.Path.{_≡_, refl, _∙_}
+use mathlib.Core.Bool.{Bool, true, false, not, _&&_, _||_}
+use mathlib.Core.List.{List, [], _∷_}
 use native.Mathlib.Numerals.{sub-one}
 use native.Mathlib.Omega.{arith}
 use borrow.Author.Tests.{le-leb, lt-leb, lt-ltb, le-ltb, eq-eqb, ne-eqb}
 use lib.ListN.{length}
 use lib.Dec.{leb, eqb}
 use Rattle.lists.specs.Search.{all, any, distinct}
+use Rattle.literal.specs.declared.Literal.{Literal}
 use Rattle.literal.specs.Literal.{isGround, same, opposed}
 use Rattle.library.specs.Bytes.{literalAt, items}
 use Rattle.library.specs.Layout.{planCount, beliefCount, plansOff, entryOff, entryLength, beliefsOf}
@@ -79,20 +80,47 @@ module _ {A : Type 0} (equal : A → A → Bool) (read : ℕ → A) (width : ℕ
   distinct-done zero at h = refl
   distinct-done (suc n) at h = absurd (omega arith)
 
+-- no element equals a later one by either of two tests
+module _ {A : Type 0} (f g : A → A → Bool) where
+  abbrev either : A → A → Bool
+  either x y = f x y || g x y
+
+  any-either : (x : A) (ys : List A) → any (either x) ys ≡ (any (f x) ys || any (g x) ys)
+  unfolding any
+  any-either x [] = refl
+  any-either x (y ∷ ys) = rw (any-either x ys) (or-swap (f x y) (g x y) (any (f x) ys) (any (g x) ys))
+    where
+      or-swap : (a b c d : Bool) → ((a || b) || (c || d)) ≡ ((a || c) || (b || d))
+      or-swap true b c d = refl
+      or-swap false true true d = refl
+      or-swap false true false d = refl
+      or-swap false false c d = refl
+
+  pub distinct-either : (xs : List A) → distinct (λ x y. f x y || g x y) xs ≡ (distinct f xs && distinct g xs)
+  unfolding distinct
+  distinct-either [] = refl
+  distinct-either (x ∷ xs) =
+      rw (any-either x xs, distinct-either xs) (and-swap (any (f x) xs) (any (g x) xs) (distinct f xs) (distinct g xs))
+    where
+      and-swap : (a b c d : Bool) → (not (a || b) && (c && d)) ≡ ((not a && c) && (not b && d))
+      and-swap true b c d = refl
+      and-swap false true true d = refl
+      and-swap false true false d = refl
+      and-swap false false c d = refl
+
+-- the same literal, or its opposite
+abbrev pub alike : Literal → Literal → Bool
+alike l m = same l m || opposed l m
+
 module _ (bytes : List ℕ) (plans beliefs : ℕ) (p : plans ≡ planCount bytes) (b : beliefs ≡ beliefCount bytes) where
   pub ground-fails : all isGround (items (literalAt bytes) 8 beliefs (4 + 4 * plans)) ≡ false → false ≡ beliefsOk (beliefsOf bytes)
   unfolding beliefsOk beliefsOf
   ground-fails h = rw (← p, ← b, h)
 
   module _ (ground : all isGround (items (literalAt bytes) 8 beliefs (4 + 4 * plans)) ≡ true) where
-    pub repeated-fails : distinct same (items (literalAt bytes) 8 beliefs (4 + 4 * plans)) ≡ false → false ≡ beliefsOk (beliefsOf bytes)
+    pub apart-decides : distinct alike (items (literalAt bytes) 8 beliefs (4 + 4 * plans)) ≡ beliefsOk (beliefsOf bytes)
     unfolding beliefsOk beliefsOf
-    repeated-fails h = rw (← p, ← b, ground, h)
-
-    pub opposed-decides : distinct same (items (literalAt bytes) 8 beliefs (4 + 4 * plans)) ≡ true
-        → distinct opposed (items (literalAt bytes) 8 beliefs (4 + 4 * plans)) ≡ beliefsOk (beliefsOf bytes)
-    unfolding beliefsOk beliefsOf
-    opposed-decides h = rw (← p, ← b, ground, h)
+    apart-decides = distinct-either same opposed _ ∙ rw (← p, ← b, ground)
 
 -- ---- 4: plans
 

@@ -10,30 +10,32 @@ use library::bytes::u16_at;
 use library::contents::entry_length;
 use library::contents::entry_offset;
 use library::plan::context_offset;
-use library::plan::failure_offset;
-use library::plan::maintenance_offset;
-use library::plan::plan_end;
-use library::plan::states_offset;
-use library::plan::success_offset;
 use library::plan::trigger_kind;
 use library::plan::trigger_least;
 use literal::Literal;
+use literal::NEGATIVE;
 use literal::REMAINDER_FACTOR;
 use literal::VARIABLE_PAIRS;
 use literal::VARIABLES;
 ghost use mathlib.Core.Path.{_≡_};
-ghost use Prim.Native.Nat.{_<_, _≤_, _^_};
+ghost use mathlib.Core.Bool.{cond};
+ghost use Prim.Native.Nat.{_+_, _*_, _-_, _<_, _≤_, _^_};
+ghost use lib.ListN.{length};
 ghost use Rattle.lists.specs.Search.{all};
-ghost use Rattle.library.specs.Bytes.{literalAt, actionAt, branchAt, items, rows};
-ghost use Rattle.library.specs.Layout.{situationAt, actionsAt, statesAt, planOf};
+ghost use Rattle.library.specs.Bytes.{literalAt, actionAt, branchAt, items, rows, rowsEnd};
+ghost use Rattle.library.specs.Layout.{situationAt, situationEnd, actionsAt, actionsEnd, statesAt, statesEnd, planOf};
 ghost use Rattle.accepted.specs.Rules.{atMost, situationOk, actionOk, actionsOk, divisionOk, literalOk, branchOk, stateOk};
-ghost use Rattle.accepted.specs.Rules.{statesFrom, entriesIn, entries, isTree, statesOk, triggerOk};
+ghost use Rattle.accepted.specs.Rules.{numbers, statesFrom, isTree, statesOk, triggerOk};
+ghost use Rattle.accepted.specs.Counts.{entered, countedIn, counted, isOnce};
 ghost use Rattle.accepted.specs.Refusal.{planFits};
 
 // The most alternatives of a situation, literals of an alternative, actions of a list, branches of a state.
 const MOST_ITEMS: usize = 4;
 
 const MOST_STATES: usize = 16;
+
+// What stands for the end of a part that breaks its rules: no part ends there.
+const NOWHERE: usize = 0;
 
 // The last kind of a trigger.
 const LAST_KIND: u16 = 4;
@@ -44,38 +46,39 @@ const LAST_ACTION: u16 = 1;
 // The kind of a branch that acts outside.
 const EXTERNAL: u16 = 2;
 
-// What a negative literal's head has above its predicate.
-const NEGATIVE: u16 = 32768;
-
 // ---- Situations and actions
 
-// Whether each of n alternatives has at most four literals.
-fn alternatives_ok(bytes: &[u8], from: usize, n: usize) -> bool
+// Past n alternatives, where each has at most four literals; nowhere else.
+fn past_alternatives(bytes: &[u8], from: usize, n: usize) -> usize
     requires { ⌜ (from < 2 ^ 60) × (n ≤ 4) ⌝ }
-    ensures { λ r. ⌜ r ≡ all (atMost 4) (rows (literalAt (now (bytes .entry))) (now (bytes .entry)) 8 n from) ⌝ }
+    ensures value { λ r. ⌜ r ≡ cond (all (atMost 4) (rows (literalAt (now (bytes .entry))) (now (bytes .entry)) 8 n from))
+        (rowsEnd (now (bytes .entry)) 8 n from) 0 ⌝ }
+    ensures small { λ r. ⌜ r ≤ from + 34 * n ⌝ }
 {
     let mut at = from;
     let mut left = n;
     while 0 < left {
         let count = u16_at(bytes, at) as usize;
         if MOST_ITEMS < count {
-            return false;
+            return NOWHERE;
         }
         at = at + 2 + LITERAL_BYTES * count;
         left -= 1;
     }
-    true
+    at
 }
 
-fn situation_ok(bytes: &[u8], at: usize) -> bool
+// Past a situation that keeps the rules; nowhere else.
+fn past_situation(bytes: &[u8], at: usize) -> usize
     requires { ⌜ at < 2 ^ 50 ⌝ }
-    ensures { λ r. ⌜ r ≡ situationOk (situationAt (now (bytes .entry)) at) ⌝ }
+    ensures value { λ r. ⌜ r ≡ cond (situationOk (situationAt (now (bytes .entry)) at)) (situationEnd (now (bytes .entry)) at) 0 ⌝ }
+    ensures small { λ r. ⌜ r < at + 2 ^ 10 ⌝ }
 {
     let alternatives = u16_at(bytes, at) as usize;
     if MOST_ITEMS < alternatives {
-        return false;
+        return NOWHERE;
     }
-    alternatives_ok(bytes, at + 2, alternatives)
+    past_alternatives(bytes, at + 2, alternatives)
 }
 
 // Whether n actions have kinds 0 and 1.
@@ -96,15 +99,20 @@ fn kinds_ok(bytes: &[u8], from: usize, n: usize) -> bool
     true
 }
 
-fn actions_ok(bytes: &[u8], at: usize) -> bool
+// Past a list of actions that keeps the rules; nowhere else.
+fn past_actions(bytes: &[u8], at: usize) -> usize
     requires { ⌜ at < 2 ^ 50 ⌝ }
-    ensures { λ r. ⌜ r ≡ actionsOk (actionsAt (now (bytes .entry)) at) ⌝ }
+    ensures value { λ r. ⌜ r ≡ cond (actionsOk (actionsAt (now (bytes .entry)) at)) (actionsEnd (now (bytes .entry)) at) 0 ⌝ }
+    ensures small { λ r. ⌜ r < at + 2 ^ 10 ⌝ }
 {
     let count = u16_at(bytes, at) as usize;
     if MOST_ITEMS < count {
-        return false;
+        return NOWHERE;
     }
-    kinds_ok(bytes, at + 2, count)
+    if !kinds_ok(bytes, at + 2, count) {
+        return NOWHERE;
+    }
+    at + 2 + ACTION_BYTES * count
 }
 
 // ---- States
@@ -182,10 +190,11 @@ fn state_ok(bytes: &[u8], from: usize, branches: usize, count: usize, state: usi
     branches_ok(bytes, from, branches, count, state)
 }
 
-// Whether each of the states is such.
-fn each_state_ok(bytes: &[u8], from: usize, count: usize) -> bool
+// Past the states, where each of them is such; nowhere else.
+fn past_each_state(bytes: &[u8], from: usize, count: usize) -> usize
     requires { ⌜ (from < 2 ^ 50) × (count ≤ 16) ⌝ }
-    ensures { λ r. ⌜ r ≡ statesFrom count 0 (rows (branchAt (now (bytes .entry))) (now (bytes .entry)) 12 count from) ⌝ }
+    ensures { λ r. ⌜ r ≡ cond (statesFrom count 0 (rows (branchAt (now (bytes .entry))) (now (bytes .entry)) 12 count from))
+        (rowsEnd (now (bytes .entry)) 12 count from) 0 ⌝ }
 {
     let mut at = from;
     let mut state: usize = 0;
@@ -193,61 +202,68 @@ fn each_state_ok(bytes: &[u8], from: usize, count: usize) -> bool
     while 0 < left {
         let branches = u16_at(bytes, at) as usize;
         if !state_ok(bytes, at + 2, branches, count, state) {
-            return false;
+            return NOWHERE;
         }
         at = at + 2 + BRANCH_BYTES * branches;
         state += 1;
         left -= 1;
     }
-    true
+    at
 }
 
-// How many of n branches lead to a state.
-fn entries_in(bytes: &[u8], from: usize, n: usize, state: usize) -> usize
+// One more branch leads to a state: two stand for all above one, and a state that has no place is passed over.
+fn enter(counts: &mut [u8], state: usize)
+    ensures { λ r. ⌜ now (counts .exit) ≡ entered (now (counts .entry)) state ⌝ }
+{
+    if counts.len() <= state {
+        return;
+    }
+    let times = counts[state];
+    if times < 2 {
+        counts[state] = times + 1;
+    }
+}
+
+// How often n branches lead to each state.
+fn enter_branches(bytes: &[u8], from: usize, n: usize, counts: &mut [u8])
     requires { ⌜ (from < 2 ^ 60) × (n < 2 ^ 16) ⌝ }
-    ensures value { λ r. ⌜ r ≡ entriesIn state (items (branchAt (now (bytes .entry))) 12 n from) ⌝ }
-    ensures small { λ r. ⌜ r ≤ n ⌝ }
+    ensures { λ r. ⌜ now (counts .exit) ≡ countedIn (now (counts .entry)) (items (branchAt (now (bytes .entry))) 12 n from) ⌝ }
 {
     let mut at = from;
     let mut left = n;
-    let mut found: usize = 0;
     while 0 < left {
         let next = u16_at(bytes, at + NEXT_STATE) as usize;
+        enter(counts, next);
         at += BRANCH_BYTES;
         left -= 1;
-        if next == state {
-            found += 1;
-        }
     }
-    found
 }
 
-// How many branches of all the states lead to a state.
-fn entries_of(bytes: &[u8], from: usize, count: usize, state: usize) -> usize
+// How often the branches of all the states lead to each state.
+fn enter_states(bytes: &[u8], from: usize, count: usize, counts: &mut [u8])
     requires { ⌜ (from < 2 ^ 50) × (count ≤ 16) ⌝ }
-    ensures { λ r. ⌜ r ≡ entries state (rows (branchAt (now (bytes .entry))) (now (bytes .entry)) 12 count from) ⌝ }
+    ensures { λ r. ⌜ now (counts .exit) ≡ counted (now (counts .entry))
+        (rows (branchAt (now (bytes .entry))) (now (bytes .entry)) 12 count from) ⌝ }
 {
     let mut at = from;
     let mut left = count;
-    let mut found: usize = 0;
     while 0 < left {
         let branches = u16_at(bytes, at) as usize;
-        found = found + entries_in(bytes, at + 2, branches, state);
+        enter_branches(bytes, at + 2, branches, counts);
         at = at + 2 + BRANCH_BYTES * branches;
         left -= 1;
     }
-    found
 }
 
-// Whether each state but 0 is entered by one branch.
-fn is_tree(bytes: &[u8], from: usize, count: usize) -> bool
-    requires { ⌜ (from < 2 ^ 50) × ((1 ≤ count) × (count ≤ 16)) ⌝ }
-    ensures { λ r. ⌜ r ≡ isTree (rows (branchAt (now (bytes .entry))) (now (bytes .entry)) 12 count from) ⌝ }
+// Whether each state but 0 has the count 1.
+fn each_once(counts: &[u8], count: usize) -> bool
+    requires { ⌜ (1 ≤ count) × (count ≤ length (now counts)) ⌝ }
+    ensures { λ r. ⌜ r ≡ all (isOnce (now (counts .entry))) (numbers (count - 1) 1) ⌝ }
 {
     let mut state: usize = 1;
     let mut left = count - 1;
     while 0 < left {
-        let found = entries_of(bytes, from, count, state);
+        let found = counts[state];
         if found != 1 {
             return false;
         }
@@ -257,21 +273,36 @@ fn is_tree(bytes: &[u8], from: usize, count: usize) -> bool
     true
 }
 
-fn states_ok(bytes: &[u8], at: usize) -> bool
+// Whether each state but 0 is entered by one branch.
+fn is_tree(bytes: &[u8], from: usize, count: usize) -> bool
+    requires { ⌜ (from < 2 ^ 50) × ((1 ≤ count) × (count ≤ 16)) ⌝ }
+    ensures { λ r. ⌜ r ≡ isTree (rows (branchAt (now (bytes .entry))) (now (bytes .entry)) 12 count from) ⌝ }
+{
+    let mut counts = [0u8; MOST_STATES];
+    enter_states(bytes, from, count, &mut counts);
+    each_once(&counts, count)
+}
+
+// Past a body that keeps the rules; nowhere else.
+fn past_states(bytes: &[u8], at: usize) -> usize
     requires { ⌜ at < 2 ^ 49 ⌝ }
-    ensures { λ r. ⌜ r ≡ statesOk (statesAt (now (bytes .entry)) at) ⌝ }
+    ensures { λ r. ⌜ r ≡ cond (statesOk (statesAt (now (bytes .entry)) at)) (statesEnd (now (bytes .entry)) at) 0 ⌝ }
 {
     let count = u16_at(bytes, at) as usize;
     if count < 1 {
-        return false;
+        return NOWHERE;
     }
     if MOST_STATES < count {
-        return false;
+        return NOWHERE;
     }
-    if !each_state_ok(bytes, at + 2, count) {
-        return false;
+    let end = past_each_state(bytes, at + 2, count);
+    if end == NOWHERE {
+        return NOWHERE;
     }
-    is_tree(bytes, at + 2, count)
+    if !is_tree(bytes, at + 2, count) {
+        return NOWHERE;
+    }
+    end
 }
 
 // ---- Plans
@@ -296,25 +327,25 @@ pub(crate) fn plan_fits(library: &[u8], plan: usize) -> bool
         return false;
     }
     let context = context_offset(library, plan);
-    if !situation_ok(library, context) {
+    let maintenance = past_situation(library, context);
+    if maintenance == NOWHERE {
         return false;
     }
-    let maintenance = maintenance_offset(library, plan);
-    if !situation_ok(library, maintenance) {
+    let success = past_situation(library, maintenance);
+    if success == NOWHERE {
         return false;
     }
-    let success = success_offset(library, plan);
-    if !actions_ok(library, success) {
+    let failure = past_actions(library, success);
+    if failure == NOWHERE {
         return false;
     }
-    let failure = failure_offset(library, plan);
-    if !actions_ok(library, failure) {
+    let states = past_actions(library, failure);
+    if states == NOWHERE {
         return false;
     }
-    let states = states_offset(library, plan);
-    if !states_ok(library, states) {
+    let end = past_states(library, states);
+    if end == NOWHERE {
         return false;
     }
-    let end = entry_offset(library, plan) as usize + entry_length(library, plan) as usize;
-    plan_end(library, plan) == end
+    end == entry_offset(library, plan) as usize + entry_length(library, plan) as usize
 }

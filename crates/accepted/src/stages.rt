@@ -15,8 +15,8 @@ use literal::opposite_of;
 ghost use mathlib.Core.Path.{_≡_};
 ghost use Prim.Native.Nat.{_<_, _^_};
 ghost use Rattle.lists.specs.Search.{all, any, distinct};
-ghost use Rattle.literal.specs.Literal.{isGround, same, opposite};
-ghost use mathlib.Core.Bool.{cond};
+ghost use Rattle.literal.specs.Literal.{isGround, same, opposed};
+ghost use mathlib.Core.Bool.{_||_};
 ghost use Rattle.library.specs.Bytes.{literalAt, items};
 ghost use Rattle.library.specs.Layout.{beliefsOf};
 ghost use Rattle.accepted.specs.Refusal.{contentsFit, isPacked, plansFit};
@@ -83,16 +83,20 @@ fn all_ground(bytes: &[u8], from: usize, n: usize) -> bool
     true
 }
 
-// Whether some of n literals is the same as a given one.
-fn any_same(bytes: &[u8], literal: Literal, from: usize, n: usize) -> bool
+// Whether some of n literals is the same as a given one, or its opposite.
+fn any_alike(bytes: &[u8], literal: Literal, from: usize, n: usize) -> bool
     requires { ⌜ (from < 2 ^ 30) × (n < 2 ^ 16) ⌝ }
-    ensures { λ r. ⌜ r ≡ any (same literal) (items (literalAt (now (bytes .entry))) 8 n from) ⌝ }
+    ensures { λ r. ⌜ r ≡ any (λ m. same literal m || opposed literal m) (items (literalAt (now (bytes .entry))) 8 n from) ⌝ }
 {
+    let opposite = opposite_of(literal);
     let mut at = from;
     let mut left = n;
     while 0 < left {
         let other = literal_at(bytes, at);
         if is_same(literal, other) {
+            return true;
+        }
+        if is_same(opposite, other) {
             return true;
         }
         at += LITERAL_BYTES;
@@ -101,29 +105,18 @@ fn any_same(bytes: &[u8], literal: Literal, from: usize, n: usize) -> bool
     false
 }
 
-// The literal, or its opposite.
-fn signed(flip: bool, l: Literal) -> Literal
-    ensures { λ r. ⌜ r ≡ cond flip (opposite l) l ⌝ }
-{
-    if flip {
-        return opposite_of(l);
-    }
-    l
-}
-
-// Whether of n literals none is the same as a later one, or none its opposite.
-fn all_distinct(bytes: &[u8], from: usize, n: usize, flip: bool) -> bool
+// Whether of n literals none is the same as a later one, and none its opposite.
+fn all_apart(bytes: &[u8], from: usize, n: usize) -> bool
     requires { ⌜ (from < 2 ^ 20) × (n < 2 ^ 16) ⌝ }
-    ensures { λ r. ⌜ r ≡ distinct (λ l. same (cond flip (opposite l) l)) (items (literalAt (now (bytes .entry))) 8 n from) ⌝ }
+    ensures { λ r. ⌜ r ≡ distinct (λ l m. same l m || opposed l m) (items (literalAt (now (bytes .entry))) 8 n from) ⌝ }
 {
     let mut at = from;
     let mut left = n;
     while 0 < left {
         let literal = literal_at(bytes, at);
-        let wanted = signed(flip, literal);
         at += LITERAL_BYTES;
         left -= 1;
-        if any_same(bytes, wanted, at, left) {
+        if any_alike(bytes, literal, at, left) {
             return false;
         }
     }
@@ -140,10 +133,7 @@ pub(crate) fn beliefs_ok(library: &[u8]) -> bool
     if !all_ground(library, from, beliefs) {
         return false;
     }
-    if !all_distinct(library, from, beliefs, false) {
-        return false;
-    }
-    all_distinct(library, from, beliefs, true)
+    all_apart(library, from, beliefs)
 }
 
 // 4: every plan keeps the rules, and ends where its entry says.

@@ -3,7 +3,8 @@ use super::Action;
 use super::Branch;
 use literal::Literal;
 ghost use mathlib.Core.Path.{_≡_};
-ghost use lib.ListN.{getD};
+ghost use Prim.Native.Nat.{_+_, _*_, _<_};
+ghost use lib.ListN.{length, getD};
 ghost use Rattle.library.specs.Plan.{noLiteral, noAction, noBranch};
 ghost use Rattle.library.specs.Bytes.{u16At, literalAt, actionAt, branchAt};
 
@@ -60,6 +61,13 @@ pub fn byte_at(bytes: &[u8], at: usize) -> u8
     bytes[at]
 }
 
+// The number of 16 bits that two bytes make, low byte first.
+fn number(low: u8, high: u8) -> u16
+    ensures { λ r. ⌜ r ≡ low + 256 * high ⌝ }
+{
+    low as u16 + 256 * (high as u16)
+}
+
 // A number of 16 bits, low byte first.
 pub fn u16_at(bytes: &[u8], at: usize) -> u16
     ensures { λ r. ⌜ r ≡ u16At (now (bytes .entry)) at ⌝ }
@@ -67,9 +75,27 @@ pub fn u16_at(bytes: &[u8], at: usize) -> u16
     if bytes.len() <= at {
         return 0;
     }
-    let low = byte_at(bytes, at) as u16;
-    let high = byte_at(bytes, at + 1) as u16;
-    low + 256 * high
+    if bytes.len() - at < 2 {
+        return bytes[at] as u16;
+    }
+    number(bytes[at], bytes[at + 1])
+}
+
+// A literal, number by number: any of them may be past the end.
+fn literal_by_parts(bytes: &[u8], at: usize) -> Literal
+    requires { ⌜ at < length (now bytes) ⌝ }
+    ensures { λ r. ⌜ r ≡ literalAt (now (bytes .entry)) at ⌝ }
+{
+    let head = u16_at(bytes, at);
+    let first = u16_at(bytes, at + 2);
+    let second = u16_at(bytes, at + 4);
+    let third = u16_at(bytes, at + 6);
+    Literal {
+        head: head,
+        first: first,
+        second: second,
+        third: third,
+    }
 }
 
 pub fn literal_at(bytes: &[u8], at: usize) -> Literal
@@ -78,10 +104,13 @@ pub fn literal_at(bytes: &[u8], at: usize) -> Literal
     if bytes.len() <= at {
         return no_literal();
     }
-    let head = u16_at(bytes, at);
-    let first = u16_at(bytes, at + 2);
-    let second = u16_at(bytes, at + 4);
-    let third = u16_at(bytes, at + 6);
+    if bytes.len() - at < LITERAL_BYTES {
+        return literal_by_parts(bytes, at);
+    }
+    let head = number(bytes[at], bytes[at + 1]);
+    let first = number(bytes[at + 2], bytes[at + 3]);
+    let second = number(bytes[at + 4], bytes[at + 5]);
+    let third = number(bytes[at + 6], bytes[at + 7]);
     Literal {
         head: head,
         first: first,

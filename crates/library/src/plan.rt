@@ -18,8 +18,8 @@ ghost use Prim.Native.Nat.{_+_, _*_, _<_, _≤_, _^_};
 ghost use lib.ListN.{length, getD};
 ghost use Rattle.library.specs.Plan.{noAction, noBranch};
 ghost use Rattle.library.specs.Bytes.{rowsEnd};
-ghost use Rattle.library.specs.Layout.{situationEnd, actionsAt, actionsEnd, statesAt, statesEnd, planOf, entryOff};
-ghost use Rattle.library.specs.Layout.{contextOff, maintenanceOff, successOff, failureOff, statesOff, planEnd};
+ghost use Rattle.library.specs.Layout.{situationEnd, actionsAt, actionsEnd, statesAt, planOf, entryOff};
+ghost use Rattle.library.specs.Layout.{contextOff, maintenanceOff, successOff, failureOff, statesOff};
 
 // How many bytes a plan's trigger has: its kind and its literal.
 const TRIGGER_BYTES: usize = 10;
@@ -61,14 +61,6 @@ fn actions_end(bytes: &[u8], at: usize) -> usize
 {
     let count = u16_at(bytes, at) as usize;
     at + 2 + ACTION_BYTES * count
-}
-
-fn states_end(bytes: &[u8], at: usize) -> usize
-    requires { ⌜ at < 2 ^ 50 ⌝ }
-    ensures { λ r. ⌜ r ≡ statesEnd (now (bytes .entry)) at ⌝ }
-{
-    let states = u16_at(bytes, at) as usize;
-    rows_end(bytes, at + 2, states, BRANCH_BYTES)
 }
 
 // ---- Trigger, context and maintenance
@@ -184,14 +176,6 @@ pub fn states_offset(library: &[u8], plan: usize) -> usize
 {
     let failure = failure_offset(library, plan);
     actions_end(library, failure)
-}
-
-// Where the plan ends, by its parts.
-pub fn plan_end(library: &[u8], plan: usize) -> usize
-    ensures { λ r. ⌜ r ≡ planEnd (now (library .entry)) (entryOff (now (library .entry)) plan) ⌝ }
-{
-    let states = states_offset(library, plan);
-    states_end(library, states)
 }
 
 // The number of branches of a state of the body at an offset.

@@ -1,4 +1,5 @@
 pub mod LiteralLaws
+pub mod WordLaws
 pub mod MatchSteps
 pub mod EnvLaws
 pub mod EntryLaws

@@ -14,10 +14,6 @@ unfolding isGround
 ground-third l p q = rw (lt-ltb _ _ p, lt-ltb _ _ q)
 
 module _ (l m : Literal) where
-  pub same-third : l .head ≡ m .head → l .first ≡ m .first → l .second ≡ m .second → eqb (l .third) (m .third) ≡ same l m
-  unfolding same
-  same-third p q r = rw (eq-eqb _ _ p, eq-eqb _ _ q, eq-eqb _ _ r)
-
   pub same-equal : same l m ≡ true → l ≡ m
   unfolding same
   same-equal e =

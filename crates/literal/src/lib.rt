@@ -4,6 +4,7 @@ ghost use mathlib.Core.Option.{none};
 ghost use mathlib.Core.Bool.{_||_};
 ghost use lib.Dec.{eqb};
 ghost use Rattle.literal.specs.Literal.{isConstant, isGround, same, opposite};
+ghost use Rattle.literal.specs.Word.{word};
 ghost use Rattle.literal.specs.Environment.{value, instantiate, emptyEnv, isEnv, replace, bind};
 ghost use Rattle.literal.specs.Match.{matchTerm, matchLiteral, answer};
 ghost use Rattle.literal.specs.Divide.{divide};
@@ -20,7 +21,10 @@ pub const REMAINDER_FACTOR: u16 = 8;
 pub const VARIABLE_PAIRS: u16 = 64;
 
 // What a negative literal's head has above its predicate.
-const NEGATIVE: u16 = 32768;
+pub const NEGATIVE: u16 = 32768;
+
+// How many numbers of 16 bits there are.
+const NUMBERS: u64 = 65536;
 
 // A literal as it is stored: the predicate with its sign, and three terms, 0 where unused.
 pub struct Literal {
@@ -53,19 +57,21 @@ pub fn is_ground(l: Literal) -> bool
     l.third < FIRST_VARIABLE
 }
 
+// The literal's eight bytes as one number: the head lowest, then its terms in order.
+fn word_of(l: Literal) -> u64
+    ensures { λ r. ⌜ r ≡ word l ⌝ }
+{
+    ((l.third as u64 * NUMBERS + l.second as u64) * NUMBERS + l.first as u64) * NUMBERS
+        + l.head as u64
+}
+
+// Two literals are the same where their words are equal: one comparison.
 pub fn is_same(l: Literal, m: Literal) -> bool
     ensures { λ r. ⌜ r ≡ same l m ⌝ }
 {
-    if l.head != m.head {
-        return false;
-    }
-    if l.first != m.first {
-        return false;
-    }
-    if l.second != m.second {
-        return false;
-    }
-    l.third == m.third
+    let word = word_of(l);
+    let other = word_of(m);
+    word == other
 }
 
 // The literal with the other sign.

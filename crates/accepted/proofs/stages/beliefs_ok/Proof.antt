@@ -1,9 +1,9 @@
--- `accepted::stages::beliefs_ok` meets its contract: ground first, then all different, then no opposites.
+-- `accepted::stages::beliefs_ok` meets its contract: ground first, then all different and no opposites.
 use mathlib.Core.Path.{sym, _∙_}
 use borrow.Author.Tests.{not-true, not-false}
 use borrow.Author.Needs.{needs}
 use denote.Ref.{now}
-use Rattle.accepted.proofs.StageLaws.{ground-fails, repeated-fails, opposed-decides}
+use Rattle.accepted.proofs.StageLaws.{ground-fails, apart-decides}
 use Rattle.accepted.proofs.stages.beliefs_ok.Statement.{statement}
 use Rattle.accepted.proofs.stages.beliefs_ok.Tie as tie
 
@@ -29,24 +29,20 @@ all-ground-requires : tie.Need-all-ground-requires
 all-ground-requires c κs = search needs
 
 returns : tie.Need-returns
-returns c = ground-fails (now ((c .before .before .before .before .before .args) .library)) _ _ ((c .before .before .before .plan-count) .ensures) ((c .before .before .belief-count) .ensures) (sym ((c .before .all-ground) .ensures) ∙ not-true _ ((c .if1) .taken))
+returns c =
+    let library = now ((c .before .before .before .before .before .args) .library) in
+    let ground = sym ((c .before .all-ground) .ensures) ∙ not-true _ ((c .if1) .taken) in
+    ground-fails library _ _ ((c .before .before .before .plan-count) .ensures) ((c .before .before .belief-count) .ensures) ground
 
-all-distinct-requires : tie.Need-all-distinct-requires
-all-distinct-requires c κs = search needs
+all-apart-requires : tie.Need-all-apart-requires
+all-apart-requires c κs = search needs
 
 returns-2 : tie.Need-returns-2
 returns-2 c =
-    repeated-fails (now ((c .before .before .before .before .before .before .before .args) .library)) _ _ ((c .before .before .before .before .before .plan-count) .ensures) ((c .before .before .before .before .belief-count) .ensures)
-    (sym ((c .before .before .before .all-ground) .ensures) ∙ not-false _ ((c .before .before .if1) .left)) (sym ((c .before .all-distinct) .ensures) ∙ not-true _ ((c .if2) .taken))
-
-all-distinct-requires-2 : tie.Need-all-distinct-requires-2
-all-distinct-requires-2 c κs = search needs
-
-returns-3 : tie.Need-returns-3
-returns-3 c =
-    (c .all-distinct2) .ensures
-    ∙ opposed-decides (now ((c .before .before .before .before .before .before .before .before .args) .library)) _ _ ((c .before .before .before .before .before .before .plan-count) .ensures) ((c .before .before .before .before .before .belief-count) .ensures)
-    (sym ((c .before .before .before .before .all-ground) .ensures) ∙ not-false _ ((c .before .before .before .if1) .left)) (sym ((c .before .before .all-distinct) .ensures) ∙ not-false _ ((c .before .if2) .left))
+    let library = now ((c .before .before .before .before .before .before .args) .library) in
+    let plans = (c .before .before .before .before .plan-count) .ensures in
+    let ground = sym ((c .before .before .all-ground) .ensures) ∙ not-false _ ((c .before .if1) .left) in
+    (c .all-apart) .ensures ∙ apart-decides library _ _ plans ((c .before .before .before .belief-count) .ensures) ground
 
 pub beliefs-ok-spec : {M : Type 1} → statement M
 beliefs-ok-spec =
@@ -60,7 +56,5 @@ beliefs-ok-spec =
     cast-beliefs
     all-ground-requires
     returns
-    all-distinct-requires
-    returns-2
-    all-distinct-requires-2
-    returns-3)
+    all-apart-requires
+    returns-2)

@@ -1,51 +1,60 @@
--- `library::bytes::u16_at` meets its contract: the two bytes are the definition's; past the end both are 0.
-use Prim.Native.Nat.{ℕ, _+_, _*_}
-use mathlib.Core.Path.{sym, ap₂}
+-- `library::bytes::u16_at` meets its contract: the two bytes are the definition's; past the end they are 0.
 use borrow.Author.Needs.{needs}
+use Prim.Native.Nat.{_+_}
+use native.Mathlib.Omega.{arith}
+use mathlib.Core.Path.{sym}
 use denote.Ref.{now}
 use Rattle.library.specs.Bytes.{u16At}
-use Rattle.library.proofs.PastEnd.{u16-past}
+use Rattle.library.proofs.PastEnd.{byte-past, u16-past}
 use Rattle.library.proofs.bytes.u16_at.Statement.{statement}
 use Rattle.library.proofs.bytes.u16_at.Tie as tie
 
 returns : tie.Need-returns
 returns c = sym (u16-past (now ((c .before .before .args) .bytes)) ((c .before .before .args) .at) ((c .if1) .taken))
 
-byte-at-requires : tie.Need-byte-at-requires
-byte-at-requires c κs = search needs
+sub-if2 : tie.Need-sub-if2
+sub-if2 c = search needs
 
-cast-low : tie.Need-cast-low
-cast-low c = search needs
+shared-slice-read-result : tie.Need-shared-slice-read-result
+shared-slice-read-result c = search needs
 
-add-byte-at : tie.Need-add-byte-at
-add-byte-at c = search needs
-
-byte-at-requires-2 : tie.Need-byte-at-requires-2
-byte-at-requires-2 c κs = search needs
-
-cast-high : tie.Need-cast-high
-cast-high c = search needs
-
-mul-result : tie.Need-mul-result
-mul-result c = search needs
-
-add-result : tie.Need-add-result
-add-result c = search needs
+cast-result : tie.Need-cast-result
+cast-result c = omega (arith, (c .before .before .before .shared-slice-known) .given ((c .before .before .before .before .args) .at))
 
 returns-2 : tie.Need-returns-2
 unfolding u16At
-returns-2 c = ap₂ (λ (low high : ℕ). low + 256 * high) ((c .before .byte-at) .ensures) ((c .byte-at2) .ensures)
+returns-2 c =
+    let a = (c .before .before .before .before .args) in
+    let high = byte-past (now (a .bytes)) (a .at + 1) (omega arith) in
+    rw high (omega arith)
+
+shared-slice-read-number : tie.Need-shared-slice-read-number
+shared-slice-read-number c = search needs
+
+add-number : tie.Need-add-number
+add-number c = search needs
+
+shared-slice-read-number-2 : tie.Need-shared-slice-read-number-2
+shared-slice-read-number-2 c = search needs
+
+number-requires : tie.Need-number-requires
+number-requires c κs = search needs
+
+returns-3 : tie.Need-returns-3
+unfolding u16At
+returns-3 c = (c .number) .ensures
 
 pub u16-at-spec : {M : Type 1} → statement M
 u16-at-spec =
     tie.close
     (tie.spec
     returns
-    byte-at-requires
-    cast-low
-    add-byte-at
-    byte-at-requires-2
-    cast-high
-    mul-result
-    add-result
-    returns-2)
+    sub-if2
+    shared-slice-read-result
+    cast-result
+    returns-2
+    shared-slice-read-number
+    add-number
+    shared-slice-read-number-2
+    number-requires
+    returns-3)
