@@ -17,7 +17,7 @@ use Rattle.model.specs.declared.Answer.the-variants.{Refused}
 use Rattle.model.specs.declared.Event.{Event}
 use Rattle.model.specs.declared.Origin.{Origin}
 use Rattle.model.specs.declared.Origin.the-variants.{External, Goal}
-use Rattle.model.specs.State.{AgentState}
+use Rattle.model.specs.State.{mostNumber, AgentState}
 use Rattle.model.specs.Event.{make, close, takeUp}
 use Rattle.model.specs.Cycle.{choiceFor}
 use Rattle.model.specs.Calls.{isRefusal}
@@ -67,11 +67,11 @@ module _ (s : State) (place : ℕ) (bytes : List ℕ) (event : Event) (choice : 
     unfolding chosen
     chosen-is = ap (λ (k : Choice). chosenBy k (choice .env)) e
 
-    pub refused : 65535 ≤ s .made → countsFit s ≡ true → r ≡ plainly s (Refused 9) → TakenUp
+    pub refused : mostNumber ≤ s .made → countsFit s ≡ true → r ≡ plainly s (Refused 9) → TakenUp
     unfolding takeUp
-    refused full fit p = taken (some chosen) chosen-is (rw (le-ltb (s .made) 65535 full) (gives-same s (Refused 9) r p fit))
+    refused full fit p = taken (some chosen) chosen-is (rw (le-ltb (s .made) mostNumber full) (gives-same s (Refused 9) r p fit))
 
-    pub made : s .made < 65535 → Replies (make (viewState s) (record { plan = plan; env = choice .env }) (event .origin)) r → TakenUp
+    pub made : s .made < mostNumber → Replies (make (viewState s) (record { plan = plan; env = choice .env }) (event .origin)) r → TakenUp
     unfolding takeUp chosen
     made low h =
-        taken (some chosen) chosen-is (rw (lt-ltb (s .made) 65535 low) (gives-answer s _ r (make-answers (viewState s) chosen (event .origin)) h))
+        taken (some chosen) chosen-is (rw (lt-ltb (s .made) mostNumber low) (gives-answer s _ r (make-answers (viewState s) chosen (event .origin)) h))

@@ -16,6 +16,7 @@ use Rattle.belief.specs.Beliefs.{mostBeliefs, view, areBeliefs}
 use Rattle.belief.specs.Table.{isTable}
 use Rattle.belief.proofs.BeliefLaws.{table-parts, table-both}
 use Rattle.library.specs.Layout.{libraryOf}
+use Rattle.model.specs.State.{mostNumber}
 use Rattle.model.specs.Live.{Job, live}
 use Rattle.model.specs.WellFormed.{areEvents, areInstances, isStack, isServed, sameServed, hasGoal, hasPoster, areServed, isWellFormed}
 use Rattle.state.specs.declared.Stack.{Stack}
@@ -92,7 +93,7 @@ jobs-few s jobs j = rw j (few-live s)
 
 -- ---- The state's rules in the order of the code
 
-module _ (bytes : List ℕ) (s : State) (len : length (s .beliefs .items) ≡ 64) (taken : s .taken ≤ 65535) (made : s .made ≤ 65535) where
+module _ (bytes : List ℕ) (s : State) (len : length (s .beliefs .items) ≡ 64) (taken : s .taken ≤ mostNumber) (made : s .made ≤ mostNumber) where
   few-stacks : leb (length (viewStacks s)) 8 ≡ true
   few-stacks =
       let viewed : length (viewStacks s) ≡ length (take (stackedOf s) (s .stacks)) = length-map (take (stackedOf s) (s .stacks)) viewStack in
@@ -106,7 +107,7 @@ module _ (bytes : List ℕ) (s : State) (len : length (s .beliefs .items) ≡ 64
       ≡ isStateFormed bytes s
   unfolding isStateFormed countsFit isWellFormed areServed
   in-order =
-      rw (le-leb (s .taken) 65535 taken, le-leb (s .made) 65535 made, few-stacks)
+      rw (le-leb (s .taken) mostNumber taken, le-leb (s .made) mostNumber made, few-stacks)
       (reordered (leb (s .beliefs .count) 64) (leb (s .queued) 88) (leb (s .stacked) 8) _ (areBeliefs (view (s .beliefs)))
       (areEvents (libraryOf bytes) (s .taken) (viewQueue s)) (areInstances (libraryOf bytes) (s .made) (live (viewStacks s))) (all isStack (viewStacks s))
       (all (λ (job : Job). any (isServed (libraryOf bytes) job) (viewQueue s)) (live (viewStacks s))) (distinct sameServed (live (viewStacks s)))

@@ -6,6 +6,7 @@ ghost use Rattle.reading.specs.Call.{number, largestNumber, headOf, term
 ghost use Rattle.reading.specs.Spoken.{meaning, numberIn};
 ghost use Rattle.reading.specs.Places.{left, DigitsAt, Reads};
 use literal::Literal;
+use model::Number;
 
 // The longest readable line has this many bytes.
 const MOST_LINE: usize = 32;
@@ -23,7 +24,7 @@ const NEGATIVE: u16 = 32768;
 pub enum Spoken {
     Report { kind: u16, literal: Literal },
     Cycle,
-    Outcome { id: u16, worked: bool },
+    Outcome { id: Number, worked: bool },
     Unreadable,
 }
 

@@ -17,7 +17,7 @@ use Rattle.literal.specs.declared.Literal.{Literal}
 use Rattle.literal.specs.Literal.{isGround}
 use Rattle.model.specs.declared.Event.{Event}
 use Rattle.model.specs.declared.Answer.the-variants.{Taken, Refused}
-use Rattle.model.specs.State.{AgentState, Reply, reply, refuse, requeued}
+use Rattle.model.specs.State.{mostNumber, AgentState, Reply, reply, refuse, requeued}
 use Rattle.model.specs.Live.{isExternal}
 use Rattle.model.specs.Report.{isReportable, isOverfull, reportRefusal, reportChanges}
 use Rattle.model.specs.Report.{newEvent, takeIn, reportBy, reported}
@@ -76,23 +76,23 @@ module _ (s : AgentState) (kind : ℕ) (l : Literal) where
   refusal-5 h = rw h
 
   module _ (a : isReportable kind l ≡ true) where
-    pub refusal-9 : 65535 ≤ s .taken → 9 ≡ reportRefusal s kind l
+    pub refusal-9 : mostNumber ≤ s .taken → 9 ≡ reportRefusal s kind l
     unfolding reportRefusal
-    refusal-9 h = rw (a, le-leb 65535 (s .taken) h)
+    refusal-9 h = rw (a, le-leb mostNumber (s .taken) h)
 
-    module _ (b : s .taken < 65535) where
+    module _ (b : s .taken < mostNumber) where
       pub refusal-7 : 32 ≤ count isExternal (s .queue) → 7 ≡ reportRefusal s kind l
       unfolding reportRefusal
-      refusal-7 h = rw (a, lt-leb 65535 (s .taken) b, le-leb 32 (count isExternal (s .queue)) h)
+      refusal-7 h = rw (a, lt-leb mostNumber (s .taken) b, le-leb 32 (count isExternal (s .queue)) h)
 
       module _ (c : count isExternal (s .queue) < 32) where
         pub refusal-6 : isOverfull (s .beliefs) kind l ≡ true → 6 ≡ reportRefusal s kind l
         unfolding reportRefusal
-        refusal-6 h = rw (a, lt-leb 65535 (s .taken) b, lt-leb 32 (count isExternal (s .queue)) c, h)
+        refusal-6 h = rw (a, lt-leb mostNumber (s .taken) b, lt-leb 32 (count isExternal (s .queue)) c, h)
 
         pub refusal-0 : isOverfull (s .beliefs) kind l ≡ false → 0 ≡ reportRefusal s kind l
         unfolding reportRefusal
-        refusal-0 h = rw (a, lt-leb 65535 (s .taken) b, lt-leb 32 (count isExternal (s .queue)) c, h)
+        refusal-0 h = rw (a, lt-leb mostNumber (s .taken) b, lt-leb 32 (count isExternal (s .queue)) c, h)
 
 -- ---- The changes
 
@@ -146,10 +146,10 @@ taken-in s kind l t p h =
 -- ---- The report
 
 -- a report that is not refused has a number left
-spent : (s : AgentState) (kind : ℕ) (l : Literal) → reportRefusal s kind l ≡ 0 → s .taken < 65535
+spent : (s : AgentState) (kind : ℕ) (l : Literal) → reportRefusal s kind l ≡ 0 → s .taken < mostNumber
 unfolding reportRefusal
 spent s kind l e = by-cases (isReportable kind l)
-    (λ a. by-cases (leb 65535 (s .taken)) (λ b. never (rw (a, b) at e)) (λ b. leb-false 65535 (s .taken) b))
+    (λ a. by-cases (leb mostNumber (s .taken)) (λ b. never (rw (a, b) at e)) (λ b. leb-false mostNumber (s .taken) b))
     (λ a. never (rw a at e))
   where
     never : {P : Type 0} {n : ℕ} → suc n ≡ 0 → P
@@ -187,5 +187,5 @@ module _ (s : State) (kind : ℕ) (l : Literal) (p : Hears s kind l) (t : Step)
 
 -- a report that is not refused has a number left
 pub number-left : (beliefs : Beliefs) (events : List Event) (queued taken kind : ℕ) (l : Literal) (refusal : ℕ)
-    → refusal ≡ reportRefusal (heard beliefs events queued taken) kind l → refusal ≡ 0 → taken < 65535
+    → refusal ≡ reportRefusal (heard beliefs events queued taken) kind l → refusal ≡ 0 → taken < mostNumber
 number-left beliefs events queued taken kind l refusal e h = spent (heard beliefs events queued taken) kind l (sym e ∙ h)

@@ -121,7 +121,7 @@ fn believed(b: Beliefs, kind: u16, l: Literal) -> Altered
     changes::one_change(b, c)
 }
 
-fn new_event(number: u16, kind: u16, l: Literal) -> Event
+fn new_event(number: Number, kind: u16, l: Literal) -> Event
     ensures { λ r. ⌜ r ≡ newEvent number kind l ⌝ }
 {
     Event {

@@ -5,13 +5,14 @@ use lib.ListN.{length}
 use denote.Ref.{now}
 use borrow.Author.Tests.{not-true, not-false}
 use Rattle.lists.proofs.ArrayLaws.{length-mapped}
+use Rattle.model.specs.State.{mostNumber}
 use Rattle.formed.proofs.StateLaws.{queue-too-long, stacks-too-many, no-table, no-stacks, no-events, jobs-few, no-jobs, unserved, no-goals, posters-decide}
 use borrow.Author.Needs.{needs}
 use Rattle.formed.proofs.is_state_formed.Statement.{statement}
 use Rattle.formed.proofs.is_state_formed.Tie as tie
 
 -- what the struct's types tell
-known : (c : tie.Start) → (length (c .args .s .beliefs .items) ≡ 64) × (c .args .s .taken ≤ 65535) × (c .args .s .made ≤ 65535)
+known : (c : tie.Start) → (length (c .args .s .beliefs .items) ≡ 64) × (c .args .s .taken ≤ mostNumber) × (c .args .s .made ≤ mostNumber)
 known c = (search (needs, length-mapped), search needs, search needs)
 
 returns : tie.Need-returns

@@ -6,6 +6,7 @@ use mathlib.Core.Path.{_≡_, refl, subst⁻¹}
 use Rattle.belief.specs.declared.Beliefs.{Beliefs}
 use Rattle.belief.specs.Beliefs.{view}
 use Rattle.library.specs.Layout.{libraryOf}
+use Rattle.model.specs.State.{mostNumber}
 use Rattle.situation.specs.Applicable.{choose}
 use Rattle.situation.specs.Selected.{chosenOf}
 use Rattle.steps.proofs.StepLaws.{rest-applied}
@@ -41,7 +42,7 @@ returns-2 c = λ s h.
     let a = (c .before .before .before .before .before .before .before .args) in
     let e = a .event in
     let chose = subst⁻¹ (λ (b : Beliefs). chosenOf ((c .before .before .before .before .before .choose-plan) .result) ≡ choose (view b) (e .kind) (e .literal) (e .failed) (libraryOf (now (a .library)) .plans)) (h .beliefs-are) ((c .before .before .before .before .before .choose-plan) .ensures .0) in
-    refused s (a .place) (now (a .library)) e ((c .before .before .before .before .before .choose-plan) .result) _ chose _ ((c .before .before .before .choice) .given .1) (subst⁻¹ (λ (m : ℕ). 65535 ≤ m) (h .made-is) ((c .before .if1) .taken)) (h .fit) (rest-applied s (a .b) _ ((c .no-step) .result) ((c .no-step) .ensures) (h .beliefs-are))
+    refused s (a .place) (now (a .library)) e ((c .before .before .before .before .before .choose-plan) .result) _ chose _ ((c .before .before .before .choice) .given .1) (subst⁻¹ (λ (m : ℕ). mostNumber ≤ m) (h .made-is) ((c .before .if1) .taken)) (h .fit) (rest-applied s (a .b) _ ((c .no-step) .result) ((c .no-step) .ensures) (h .beliefs-are))
 
 make-event-requires : tie.Need-make-event-requires
 make-event-requires c κs = search needs
@@ -51,7 +52,7 @@ returns-3 c = λ s h.
     let a = (c .before .before .before .before .before .before .before .before .args) in
     let e = a .event in
     let chose = subst⁻¹ (λ (b : Beliefs). chosenOf ((c .before .before .before .before .before .before .choose-plan) .result) ≡ choose (view b) (e .kind) (e .literal) (e .failed) (libraryOf (now (a .library)) .plans)) (h .beliefs-are) ((c .before .before .before .before .before .before .choose-plan) .ensures .0) in
-    made s (a .place) (now (a .library)) e ((c .before .before .before .before .before .before .choose-plan) .result) _ chose _ ((c .before .before .before .before .choice) .given .1) (subst⁻¹ (λ (m : ℕ). m < 65535) (h .made-is) ((c .before .before .if1) .left)) ((c .make-event) .ensures s h)
+    made s (a .place) (now (a .library)) e ((c .before .before .before .before .before .before .choose-plan) .result) _ chose _ ((c .before .before .before .before .choice) .given .1) (subst⁻¹ (λ (m : ℕ). m < mostNumber) (h .made-is) ((c .before .before .if1) .left)) ((c .make-event) .ensures s h)
 
 pub take-up-spec : {M : Type 1} → statement M
 take-up-spec =
