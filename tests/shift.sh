@@ -67,7 +67,7 @@ done
 # The page's example is the image of a stored shift; the page does not repeat the library's bytes.
 # shellcheck disable=SC2016 # backquotes of Markdown
 sed -n 's/^| [0-9]* | `\([0-9 ]*\)` |.*/\1/p' "$page" | tr ' ' '\n' > ../page
-od -An -v -tu1 -w1 "$stored/waiting/1.image" | tr -d ' ' | sed '21,78d' | cmp -s - ../page ||
+od -An -v -tu1 -w1 "$stored/waiting/1.image" | tr -d ' ' | sed '25,82d' | cmp -s - ../page ||
     { echo "docs/IMAGE-FORMAT.md: its example is not the image of tests/shift/waiting"; exit 1; }
 
 # ---- Stored journals, cut

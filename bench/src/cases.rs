@@ -5,6 +5,7 @@ use differential::images::{Event, Image, tower_plans};
 use reference::agent::{MOST_EXTERNAL, MOST_INSTANCES, MOST_STACKS};
 use reference::belief::MOST_BELIEFS;
 use reference::library::MOST_PLANS;
+use reference::state::Number;
 
 /// A library with a journal.
 pub struct Case {
@@ -137,10 +138,10 @@ pub fn largest_image() -> Vec<u8> {
     let mut plans: Vec<Plan> = tower_plans().map(|plan| full(lengthened(plan))).into();
     plans.extend((2..MOST_PLANS).map(filler));
     let library = Library { beliefs: full_table(), plans };
-    let mut image = Image::towers(&library, MOST_STACKS as u16, MOST_INSTANCES as u16).with_active_tops();
+    let mut image = Image::towers(&library, MOST_STACKS as Number, MOST_INSTANCES as Number).with_active_tops();
     let pending = |number| Event { origin: [0; 3], kind: TOLD, literal: [1, 5, 0, 0], failed: 0, number };
-    image.events.extend((image.taken + 1..=MOST_EXTERNAL as u16).map(pending));
-    image.taken = MOST_EXTERNAL as u16;
+    image.events.extend((image.taken + 1..=MOST_EXTERNAL as Number).map(pending));
+    image.taken = MOST_EXTERNAL as Number;
     image.encode()
 }
 
@@ -311,7 +312,7 @@ mod tests {
 
     #[test]
     fn the_largest_image_is_as_large_as_can_be() {
-        assert_eq!(largest_image().len(), 23_506);
+        assert_eq!(largest_image().len(), 23_836);
         for (name, bytes) in images() {
             let agent = reference::image::restore(&bytes).expect(name);
             assert_eq!(reference::image::image(&agent), bytes);

@@ -1,4 +1,4 @@
-//! An agent as bytes (document 02, request 3): the layout of docs/IMAGE-FORMAT.md, written and read field by field.
+//! An agent as bytes (document 02, requests 3 and 5): the layout of docs/IMAGE-FORMAT.md, written and read field by field.
 
 use crate::agent::{Agent, MOST_EXTERNAL, MOST_INSTANCES, MOST_STACKS};
 use crate::belief::MOST_BELIEFS;
@@ -8,10 +8,14 @@ use crate::literal::{Bindings, Literal};
 use crate::refusal::Refusal;
 use crate::state::{Event, Instance, Number, Origin, Place, Stack, Status};
 
-/// Library, beliefs, events, stacks and counts.
-const BODIES: usize = 5;
-/// The bytes of the contents: an offset and a length for each body.
-const CONTENTS: usize = 4 * BODIES;
+/// The bytes of an entry of the contents: the offset and the length of a body.
+const ENTRY: usize = 4;
+/// The oldest form: library, beliefs, events, stacks and counts, with numbers of 16 bits.
+const OLD_BODIES: usize = 5;
+/// The newest form: a sixth body tells the width of the numbers.
+const BODIES: usize = 6;
+/// The width of the numbers, in bits.
+const WIDTH: u16 = Number::BITS as u16;
 /// The most events in a queue: the external ones, and a goal for each instance that has room above it.
 const MOST_EVENTS: usize = MOST_EXTERNAL + MOST_STACKS * (MOST_INSTANCES - 1);
 
@@ -34,9 +38,10 @@ pub fn restore(bytes: &[u8]) -> Result<Agent, Refusal> {
 
 /// The image of an agent.
 pub fn image(agent: &Agent) -> Vec<u8> {
-    let bodies = [agent.library().to_vec(), beliefs(agent), events(agent), stacks(agent), counts(agent)];
-    let mut contents = Vec::with_capacity(CONTENTS);
-    let mut offset = CONTENTS;
+    let bodies: [Vec<u8>; BODIES] =
+        [agent.library().to_vec(), beliefs(agent), events(agent), stacks(agent), counts(agent), WIDTH.to_le_bytes().to_vec()];
+    let mut contents = Vec::new();
+    let mut offset = ENTRY * BODIES;
     for body in &bodies {
         put(&mut contents, [offset as u16, body.len() as u16]);
         offset += body.len();
@@ -73,7 +78,7 @@ fn put_event(body: &mut Vec<u8>, event: &Event) {
     put(body, [event.kind as u16]);
     put(body, event.fact.stored());
     body.extend(failed.to_le_bytes());
-    put(body, [number]);
+    body.extend(number.to_le_bytes());
 }
 
 fn stacks(agent: &Agent) -> Vec<u8> {
@@ -82,7 +87,8 @@ fn stacks(agent: &Agent) -> Vec<u8> {
     for stack in agent.stacks() {
         let served = stack.first().map(|bottom| bottom.serves);
         let Some(Origin::External(number)) = served else { continue };
-        put(&mut body, [stack.len() as u16, number]);
+        put(&mut body, [stack.len() as u16]);
+        body.extend(number.to_le_bytes());
         stack.iter().for_each(|instance| put_instance(&mut body, instance));
     }
     body
@@ -92,13 +98,11 @@ fn put_instance(body: &mut Vec<u8>, instance: &Instance) {
     put(body, [instance.plan, instance.state, instance.tried].map(|number| number as u16));
     put(body, [instance.status as u16]);
     put(body, instance.bindings.stored());
-    put(body, [instance.id]);
+    body.extend(instance.id.to_le_bytes());
 }
 
 fn counts(agent: &Agent) -> Vec<u8> {
-    let mut body = Vec::new();
-    put(&mut body, [agent.taken(), agent.made()]);
-    body
+    [agent.taken(), agent.made()].map(Number::to_le_bytes).concat()
 }
 
 /// What the bytes of an image say; the rules for states are not tested yet.
@@ -121,27 +125,50 @@ pub(crate) struct StoredEvent {
 }
 
 impl<'a> Image<'a> {
-    /// Reads an image; none where a byte is not as docs/IMAGE-FORMAT.md has it.
+    /// Reads an image; none where a byte is not as docs/IMAGE-FORMAT.md has it. Where the first body starts tells the form.
     fn read(bytes: &'a [u8]) -> Option<Self> {
-        let [library, beliefs, events, stacks, counts] = bodies(bytes)?;
+        let start = usize::from(Reader(bytes).number()?);
+        if start == ENTRY * OLD_BODIES {
+            return Image::of(bodies(bytes)?, narrow);
+        }
+        let [library, beliefs, events, stacks, counts, width] = bodies(bytes)?;
+        whole(width, |body| body.number()).filter(|width| *width == WIDTH)?;
+        Image::of([library, beliefs, events, stacks, counts], wide)
+    }
+
+    /// Reads the bodies that all forms have, with numbers of either width.
+    fn of([library, beliefs, events, stacks, counts]: [&'a [u8]; OLD_BODIES], number: ReadNumber) -> Option<Self> {
         if library.len() > LARGEST_LIBRARY {
             return None;
         }
         Some(Image {
             library,
             beliefs: whole(beliefs, |body| body.at_most(MOST_BELIEFS, Reader::literal))?,
-            events: whole(events, |body| body.at_most(MOST_EVENTS, Reader::event))?,
-            stacks: whole(stacks, |body| body.at_most(MOST_STACKS, Reader::stack))?,
-            counts: whole(counts, |body| Some([body.number()?, body.number()?]))?,
+            events: whole(events, |body| body.at_most(MOST_EVENTS, |body| body.event(number)))?,
+            stacks: whole(stacks, |body| body.at_most(MOST_STACKS, |body| body.stack(number)))?,
+            counts: whole(counts, |body| Some([number(body)?, number(body)?]))?,
         })
     }
 }
 
-/// The five bodies, if they are packed behind the contents up to the last byte.
-fn bodies(bytes: &[u8]) -> Option<[&[u8]; BODIES]> {
+/// Reads an event's number, an id or a count.
+type ReadNumber = fn(&mut Reader) -> Option<Number>;
+
+/// A number of 16 bits.
+fn narrow(reader: &mut Reader) -> Option<Number> {
+    reader.number().map(Number::from)
+}
+
+/// A number of 32 bits, the low byte first.
+fn wide(reader: &mut Reader) -> Option<Number> {
+    Some(Number::from(reader.number()?) | Number::from(reader.number()?) << u16::BITS)
+}
+
+/// The bodies, if they are packed behind the contents up to the last byte.
+fn bodies<const COUNT: usize>(bytes: &[u8]) -> Option<[&[u8]; COUNT]> {
     let mut contents = Reader(bytes);
-    let mut bodies = [&bytes[..0]; BODIES];
-    let mut end = CONTENTS;
+    let mut bodies = [&bytes[..0]; COUNT];
+    let mut end = ENTRY * COUNT;
     for body in &mut bodies {
         let (offset, length) = (usize::from(contents.number()?), usize::from(contents.number()?));
         if offset != end {
@@ -166,12 +193,12 @@ impl Reader<'_> {
         self.items(count, item)
     }
 
-    fn event(&mut self) -> Option<StoredEvent> {
+    fn event(&mut self, number: ReadNumber) -> Option<StoredEvent> {
         let origin = [self.number()?, self.number()?, self.number()?];
         let kind = EventKind::from_stored(self.number()?)?;
         let literal = self.literal()?;
-        let failed = u32::from(self.number()?) | u32::from(self.number()?) << 16;
-        let number = self.number()?;
+        let failed = wide(self)?;
+        let number = number(self)?;
         let origin = match origin {
             [EXTERNAL, 0, 0] => Origin::External(number),
             [GOAL, state, branch] => Origin::Goal(Place { id: number, state: state.into(), branch: branch.into() }),
@@ -181,17 +208,17 @@ impl Reader<'_> {
     }
 
     /// A stack: the lowest instance serves its external event, each other one the goal of the one below it.
-    fn stack(&mut self) -> Option<Stack> {
+    fn stack(&mut self, number: ReadNumber) -> Option<Stack> {
         let height = self.count(MOST_INSTANCES).filter(|height| *height > 0)?;
-        let mut serves = Origin::External(self.number()?);
+        let mut serves = Origin::External(number(self)?);
         self.items(height, |reader| {
-            let instance = reader.instance(serves)?;
+            let instance = reader.instance(serves, number)?;
             serves = Origin::Goal(instance.last_tried());
             Some(instance)
         })
     }
 
-    fn instance(&mut self, serves: Origin) -> Option<Instance> {
+    fn instance(&mut self, serves: Origin, number: ReadNumber) -> Option<Instance> {
         let [plan, state, tried] = [self.number()?, self.number()?, self.number()?].map(usize::from);
         let status = match self.number()? {
             0 => Status::Active,
@@ -201,6 +228,6 @@ impl Reader<'_> {
         };
         let numbers = self.items(8, Reader::number)?;
         let bindings = Bindings::from_stored(numbers.first_chunk()?)?;
-        Some(Instance { id: self.number()?, plan, serves, bindings, state, tried, status })
+        Some(Instance { id: number(self)?, plan, serves, bindings, state, tried, status })
     }
 }

@@ -28,15 +28,26 @@ impl Call {
         let call = match fields.next()? {
             b"P" => Call::Report(number(fields.next()?)?, literal(&mut fields)?),
             b"C" => Call::Cycle,
-            b"O" => Call::Outcome(number(fields.next()?)?, flag(fields.next()?)?),
+            b"O" => Call::Outcome(id(fields.next()?)?, flag(fields.next()?)?),
             _ => return None,
         };
         fields.next().is_none().then_some(call)
     }
 }
 
+/// A number of 1 to 5 digits, at most 65,535.
 fn number(field: &[u8]) -> Option<u16> {
-    if field.is_empty() || field.len() > 5 {
+    value(field, 5)?.try_into().ok()
+}
+
+/// An id of 1 to 10 digits, at most 4,294,967,295.
+fn id(field: &[u8]) -> Option<Number> {
+    value(field, 10)?.try_into().ok()
+}
+
+/// The value of a field of digits, at least one and so many at most.
+fn value(field: &[u8], most_digits: usize) -> Option<u64> {
+    if field.is_empty() || field.len() > most_digits {
         return None;
     }
     let mut value = 0;
@@ -44,9 +55,9 @@ fn number(field: &[u8]) -> Option<u16> {
         if !byte.is_ascii_digit() {
             return None;
         }
-        value = 10 * value + u32::from(byte - b'0');
+        value = 10 * value + u64::from(byte - b'0');
     }
-    value.try_into().ok()
+    Some(value)
 }
 
 fn flag(field: &[u8]) -> Option<bool> {
@@ -97,8 +108,12 @@ impl Line<'_> {
         self.word(b" ").digits(number.into())
     }
 
+    fn id(&mut self, id: Number) -> &mut Self {
+        self.number(id as usize)
+    }
+
     fn place(&mut self, place: Place) -> &mut Self {
-        self.number(place.id).number(place.state).number(place.branch)
+        self.id(place.id).number(place.state).number(place.branch)
     }
 
     fn fact(&mut self, fact: &Fact) -> &mut Self {
@@ -119,23 +134,23 @@ impl Line<'_> {
 
     fn deed(&mut self, deed: Deed) -> &mut Self {
         match deed {
-            Deed::Taken(number) => self.word(b"T").number(number),
+            Deed::Taken(number) => self.word(b"T").id(number),
             Deed::Idle => self.word(b"I"),
-            Deed::Dropped(number, failed) => self.word(b"N").number(number).number(failed),
+            Deed::Dropped(number, failed) => self.word(b"N").id(number).number(failed),
             Deed::Unmet(goal, failed) => self.word(b"U").place(goal).number(failed),
             Deed::Made { id, plan, serves } => {
-                self.word(b"M").number(id).number(plan);
+                self.word(b"M").id(id).number(plan);
                 match serves {
-                    Origin::External(number) => self.word(b" e").number(number),
-                    Origin::Goal(goal) => self.word(b" g").number(goal.id),
+                    Origin::External(number) => self.word(b" e").id(number),
+                    Origin::Goal(goal) => self.word(b" g").id(goal.id),
                 }
             }
             Deed::Stepped(place, next) => self.word(b"S").place(place).number(next),
             Deed::Missed(place) => self.word(b"B").place(place),
             Deed::Done(place, fact) => self.word(b"D").place(place).fact(&fact),
             Deed::Posted(place) => self.word(b"G").place(place),
-            Deed::Succeeded(id) => self.word(b"E").number(id),
-            Deed::Failed(id) => self.word(b"F").number(id),
+            Deed::Succeeded(id) => self.word(b"E").id(id),
+            Deed::Failed(id) => self.word(b"F").id(id),
         }
     }
 }

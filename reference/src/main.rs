@@ -79,13 +79,17 @@ fn run_journal() -> io::Result<()> {
 }
 
 fn run_shift() -> io::Result<()> {
-    let image = match fs::read(IMAGE) {
-        Err(error) if error.kind() == ErrorKind::NotFound => None,
-        read => Some(read?),
-    };
-    match run(image.map_or_else(from_library, |image| image::restore(&image)))? {
+    match run(carried_over()?)? {
         Some(agent) => save(&agent),
         None => Ok(()),
+    }
+}
+
+/// The agent of the image where there is one, else of the library.
+fn carried_over() -> io::Result<Result<Agent, Refusal>> {
+    match fs::read(IMAGE) {
+        Err(error) if error.kind() == ErrorKind::NotFound => Ok(from_library()),
+        read => Ok(image::restore(&read?)),
     }
 }
 

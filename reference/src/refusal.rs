@@ -21,7 +21,7 @@ pub enum Refusal {
     QueueFull = 7,
     /// No instance with this id waits for an outcome.
     NotWaiting = 8,
-    /// The next event or instance would need a number past 65,535.
+    /// The next event or instance would need a number past 4,294,967,295.
     NumbersSpent = 9,
     /// The state is not well formed, or its library is refused.
     NotWellFormed = 10,

@@ -3,8 +3,8 @@
 use crate::library::EventKind;
 use crate::literal::{Bindings, Fact};
 
-/// The number of an external event, or the id of an instance.
-pub type Number = u16;
+/// The number of an external event, or the id of an instance (document 02, request 5).
+pub type Number = u32;
 
 /// A branch of a state, as some instance met it.
 #[derive(Clone, Copy, Debug, PartialEq, Eq, Hash)]

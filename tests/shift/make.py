@@ -15,6 +15,8 @@ KINDS = ["added", "removed", "told", "achieve", "query"]
 STATUSES = ["active", "waiting", "suspended"]
 EXTERNAL, GOAL = 0, 1
 FAILED_BYTES = 4
+# How many bytes the number of an event or an instance has, in the newest form and in the older one.
+WIDE, NARROW = 4, 2
 PLACE = Path(__file__).parent
 
 
@@ -35,16 +37,16 @@ def literal(words):
 
 
 def event(number, origin, words):
-    """Its number, where it comes from, its kind and literal, and the plans that have failed for it."""
+    """Its number, in bytes, where it comes from, its kind and literal, and the plans that have failed for it."""
     failed = sum(1 << int(plan) for plan in words[6:])
-    return numbers(*origin, KINDS.index(words[0])) + literal(words[1:5]) + failed.to_bytes(FAILED_BYTES, "little") + numbers(number)
+    return numbers(*origin, KINDS.index(words[0])) + literal(words[1:5]) + failed.to_bytes(FAILED_BYTES, "little") + number
 
 
-def instance(words):
-    """Its id, plan, state, how many branches were tried, its status, and the values of its first variables."""
-    bound = words[5:]
+def instance(number, words):
+    """Its id, in bytes, plan, state, how many branches were tried, its status, and the values of its first variables."""
+    bound = words[4:]
     unbound = range(FIRST_VARIABLE + len(bound), FIRST_VARIABLE + VARIABLES)
-    return numbers(*words[1:4], STATUSES.index(words[4]), *bound, *unbound, words[0])
+    return numbers(*words[:3], STATUSES.index(words[3]), *bound, *unbound) + number
 
 
 class Text:
@@ -52,32 +54,41 @@ class Text:
 
     def __init__(self):
         self.library, self.counts = b"", b""
+        self.width = WIDE
         self.beliefs, self.events, self.stacks = [], [], []
         self.edits = []
 
+    def number(self, word):
+        """The number of an event or an instance, or a count of them, low byte first."""
+        return int(word).to_bytes(self.width, "little")
+
     def line(self, head, words):
-        if head == "library":
+        if head == "older":
+            self.width = NARROW
+        elif head == "library":
             self.library = (PLACE.parent / "journals" / words[0] / "library").read_bytes()
         elif head == "belief":
             self.beliefs.append(literal(words))
         elif head == "event":
-            self.events.append(event(words[0], (EXTERNAL, 0, 0), words[1:]))
+            self.events.append(event(self.number(words[0]), (EXTERNAL, 0, 0), words[1:]))
         elif head == "goal":
-            self.events.append(event(words[0], (GOAL, words[1], words[2]), words[3:]))
+            self.events.append(event(self.number(words[0]), (GOAL, words[1], words[2]), words[3:]))
         elif head == "stack":
-            self.stacks.append((words[0], []))
+            self.stacks.append((self.number(words[0]), []))
         elif head == "instance":
-            self.stacks[-1][1].append(instance(words))
+            self.stacks[-1][1].append(instance(self.number(words[0]), words[1:]))
         elif head == "counts":
-            self.counts = numbers(*words)
+            self.counts = b"".join(map(self.number, words))
         elif head in ("set", "length"):
             self.edits.append((head, [int(word) for word in words]))
         else:
             raise ValueError(f"{head!r} says nothing")
 
     def encoded(self):
-        stacks = [numbers(len(instances), external) + b"".join(instances) for external, instances in self.stacks]
+        stacks = [numbers(len(instances)) + external + b"".join(instances) for external, instances in self.stacks]
         bodies = [self.library, listed(self.beliefs), listed(self.events), listed(stacks), self.counts]
+        if self.width == WIDE:
+            bodies.append(numbers(8 * WIDE))
         at, contents = 4 * len(bodies), b""
         for body in bodies:
             contents += numbers(at, len(body))

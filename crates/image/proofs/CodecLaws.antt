@@ -29,7 +29,8 @@ unfolding row items
 row-items read width zero at = refl
 row-items read width (suc n) at = rw (row-items read width n (at + width))
 
-module _ {A : Type 0} {write : A → List ℕ} {read : List ℕ → ℕ → A} {size : List ℕ → ℕ → ℕ} {good : A → Bool} (codec : Codec A write read size good) where
+module _ {A : Type 0} {write : A → List ℕ} {read : List ℕ → ℕ → A} {size : List ℕ → ℕ → ℕ} {good : A
+    → Bool} (codec : Codec A write read size good) where
   pub row-back : (before after : List ℕ) (xs : List A) → all good xs ≡ true
       → row (read (before ++ (each write xs ++ after))) (size (before ++ (each write xs ++ after))) (length xs) (length before) ≡ xs
   unfolding row all
@@ -59,7 +60,8 @@ module _ {A : Type 0} {write : A → List ℕ} {read : List ℕ → ℕ → A} {
       ap₂ (λ (k at : ℕ). row (read image) (size image) k at) n from
       ∙ ap (λ (l : List ℕ). row (read l) (size l) (length xs) (length front)) inside ∙ row-back front after xs h
 
-module _ {A : Type 0} {write : A → List ℕ} {read : List ℕ → ℕ → A} {width : ℕ} {good : A → Bool} (codec : Codec A write read (λ bytes at. width) good) where
+module _ {A : Type 0} {write : A → List ℕ} {read : List ℕ → ℕ → A} {width : ℕ} {good : A
+    → Bool} (codec : Codec A write read (λ bytes at. width) good) where
   -- items of one size are read back
   pub items-back : (before after : List ℕ) (xs : List A) → all good xs ≡ true
       → items (read (before ++ (each write xs ++ after))) width (length xs) (length before) ≡ xs
@@ -96,7 +98,8 @@ module _ {A : Type 0} (read : ℕ → A) (width : ℕ) where
   items-last zero at = ap (λ (k : ℕ). read k ∷ []) (omega arith)
   items-last (suc n) at =
       let place : at + width + width * n ≡ at + width * suc n = simp mul-suc (omega arith) in
-      ap (λ (xs : List A). read at ∷ xs) (items-last n (at + width) ∙ ap (λ (k : ℕ). items read width n (at + width) ++ (read k ∷ [])) place)
+      ap (λ (xs : List A). read at ∷ xs)
+      (items-last n (at + width) ∙ ap (λ (k : ℕ). items read width n (at + width) ++ (read k ∷ [])) place)
 
   -- one place more is filled
   pub read-next : (at : ℕ) (xs : List A) (i : ℕ) (x : A) → i < length xs → x ≡ read (at + width * i) → take i xs ≡ items read width i at

@@ -1,12 +1,15 @@
 -- Laws of restoring: the two tests, and the answer.
 use Prim.Native.Nat.{ℕ}
 use native.Mathlib.Omega.{arith}
-use mathlib.Core.Path.{_≡_, refl, ap, sym, subst⁻¹, _∙_}
-use mathlib.Core.Bool.{true, false}
+use mathlib.Core.Path.{_≡_, refl, ap, sym, subst, subst⁻¹, _∙_}
+use mathlib.Core.Bool.{true, false, _&&_}
 use mathlib.Core.List.{List}
+use lib.Dec.{eqb}
 use lib.ListN.{length, take, length-replicate}
 use Rattle.lists.specs.Search.{all}
-use Rattle.accepted.specs.Refusal.{mostBytes}
+use Rattle.library.specs.Layout.{libraryOf}
+use Rattle.accepted.specs.Refusal.{refusalOf, mostBytes}
+use Rattle.model.specs.WellFormed.{isWellFormed}
 use Rattle.state.specs.declared.State.{State}
 use Rattle.state.specs.View.{viewState, countsFit}
 use Rattle.formed.specs.Formed.{isStateFormed, isFormed, isWellFormedWith}
@@ -14,21 +17,26 @@ use Rattle.formed.proofs.WellFormedLaws.{test-own}
 use Rattle.load.specs.declared.Agent.{Agent}
 use Rattle.load.specs.declared.Loaded.{Loaded}
 use Rattle.load.specs.Load.{bytesOf, Holds, noAgent}
+use Rattle.image.specs.declared.form.Form.{Form}
 use Rattle.image.specs.declared.parts.LibraryCopy.{LibraryCopy}
-use Rattle.image.specs.Image.{imageOf, stateIn, sameBytes, isImage, isFormedIn, imageRefusal}
+use Rattle.image.specs.Image.{imageAs, formIn, libraryAs, stateAs, stateIn, sameBytes, isImage, isFormedIn, imageRefusal}
 use Rattle.image.specs.Reads.{ReadsLibrary, ReadsState}
 use Rattle.image.specs.Restores.{Restores}
 
-module _ (image : List ℕ) (copy : LibraryCopy) (s : State) (l : ReadsLibrary image copy) (r : ReadsState image s) where
+module _ (image : List ℕ) (form : Form) (same : form ≡ formIn image) (copy : LibraryCopy) (s : State)
+    (l : ReadsLibrary form image copy) (r : ReadsState form image s) where
   -- the test of 12
-  pub image-test : sameBytes image (imageOf (take (copy .size) (copy .bytes)) (viewState s)) ≡ isImage image
+  pub image-test : sameBytes image (imageAs form (take (copy .size) (copy .bytes)) (viewState s)) ≡ isImage image
   unfolding isImage
-  image-test = rw (l .means, r .means) refl
+  image-test =
+      rw (l .means, r .means) (ap (λ (f : Form). sameBytes image (imageAs f (libraryAs f image) (stateAs f image))) same)
 
   -- the test of 10
   pub formed-test : isWellFormedWith (copy .bytes) (copy .size) s ≡ isFormedIn image
   unfolding isFormed isStateFormed isFormedIn
-  formed-test = sym (test-own (copy .bytes) (copy .size) s (omega (arith, l .few, l .places))) ∙ rw (l .means, r .means, r .fit) refl
+  formed-test =
+      sym (test-own (copy .bytes) (copy .size) s (omega (arith, l .few, l .places))) ∙ rw (l .means, r .means, r .fit)
+      (ap (λ (f : Form). eqb (refusalOf (libraryAs f image)) 0 && isWellFormed (libraryOf (libraryAs f image)) (stateAs f image)) same)
 
 -- ---- The answer
 
@@ -71,17 +79,19 @@ module _ (image : List ℕ) (r : Loaded) where
   refused-formed t f h = refused 10 (rw (t, f) refl) (λ e. absurd (omega arith)) h
 
   -- accepted
-  pub restored : (copy : LibraryCopy) (s : State) → ReadsLibrary image copy → ReadsState image s → isImage image ≡ true
-      → isFormedIn image ≡ true
+  pub restored : (form : Form) → form ≡ formIn image → (copy : LibraryCopy) (s : State) → ReadsLibrary form image copy
+      → ReadsState form image s
+      → isImage image ≡ true → isFormedIn image ≡ true
       → r ≡ record { refusal = 0; agent = record { library = copy .bytes; length = copy .size; state = s } } → Restores image r
   unfolding imageRefusal
-  restored copy s l read t f e =
+  restored form same copy s l read t f e =
       let size : r .agent .length ≡ copy .size = ap (λ (x : Loaded). x .agent .length) e in
       record {
         number = ap (λ (x : Loaded). x .refusal) e ∙ sym (rw (t, f) refl);
-        copy = λ z. ap (λ (x : Loaded). bytesOf (x .agent)) e ∙ l .means;
-        state = λ z. ap (λ (x : Loaded). viewState (x .agent .state)) e ∙ read .means;
-        table = λ z. subst⁻¹ (λ (x : Loaded). Holds (stateIn image .beliefs) (x .agent .state .beliefs)) e (read .table);
+        copy = λ z. ap (λ (x : Loaded). bytesOf (x .agent)) e ∙ l .means ∙ ap (λ (k : Form). libraryAs k image) same;
+        state = λ z. ap (λ (x : Loaded). viewState (x .agent .state)) e ∙ read .means ∙ ap (λ (k : Form). stateAs k image) same;
+        table = λ z. subst⁻¹ (λ (x : Loaded). Holds (stateIn image .beliefs) (x .agent .state .beliefs)) e
+            (subst (λ (k : Form). Holds (stateAs k image .beliefs) (s .beliefs)) same (read .table));
         none = λ z. absurd (z (rw (t, f) refl));
         fit = ap (λ (x : Loaded). countsFit (x .agent .state)) e ∙ read .fit;
         within = omega (arith, l .few, size);

@@ -16,6 +16,7 @@ use Rattle.model.specs.declared.Instance.{Instance}
 use Rattle.model.specs.State.{Intention}
 use Rattle.state.specs.declared.Stack.{Stack}
 use Rattle.state.specs.View.{mostBelow, noInstance, depthOf, down, viewStack}
+use Rattle.image.specs.declared.form.Form.{Form}
 use Rattle.image.specs.Words.{wordSize, wordBytes, numberBytes, numberAt}
 use Rattle.image.specs.Rows.{row, rowEnd}
 use Rattle.image.specs.StackImage.{instanceSize, instanceBytes, instanceAt, upward}
@@ -73,38 +74,41 @@ depths-more xs i x h e done =
 
 -- ---- A stack as it is written and read
 
-pub stack-bytes : (stack : Stack) (n : ℕ) → n ≡ depthOf stack → length (stack .below) ≡ mostBelow
-    → wordBytes (n + 1) ++ (numberBytes (stack .external) ++ (each instanceBytes (take n (stack .below)) ++ instanceBytes (stack .top)))
-    ≡ stackBytes (viewStack stack)
+pub stack-bytes : (form : Form) (stack : Stack) (n : ℕ) → n ≡ depthOf stack → length (stack .below) ≡ mostBelow
+    → wordBytes (n + 1) ++ (numberBytes form (stack .external) ++
+    (each (instanceBytes form) (take n (stack .below)) ++ instanceBytes form (stack .top)))
+    ≡ stackBytes form (viewStack stack)
 unfolding stackBytes upward
-stack-bytes stack n e seven =
+stack-bytes form stack n e seven =
     let d = depthOf stack in
     let low : d ≤ length (stack .below) = omega arith in
     let size : n ≡ length (down d (stack .below)) = e ∙ sym (length-down d (stack .below) low) in
     let up : take n (stack .below) ≡ reverse (down d (stack .below)) =
     ap (λ (k : ℕ). take k (stack .below)) e ∙ sym (down-up d (stack .below) low) in
-    let all-of : each instanceBytes (take n (stack .below)) ++ instanceBytes (stack .top) ≡ each instanceBytes (reverse (down d (stack .below)) ++ (stack .top ∷ [])) =
-    ap₂ (λ (s t : List ℕ). s ++ t) (ap (each instanceBytes) up) (sym (append-nil (instanceBytes (stack .top))))
-    ∙ sym (each-joined instanceBytes (reverse (down d (stack .below))) (stack .top ∷ [])) in
-    ap₂ (λ (k : ℕ) (t : List ℕ). wordBytes (k + 1) ++ (numberBytes (stack .external) ++ t)) size all-of
+    let all-of : each (instanceBytes form) (take n (stack .below)) ++ instanceBytes form (stack .top) ≡ each (instanceBytes form)
+    (reverse (down d (stack .below)) ++ (stack .top ∷ [])) =
+    ap₂ (λ (s t : List ℕ). s ++ t) (ap (each (instanceBytes form)) up) (sym (append-nil (instanceBytes form (stack .top))))
+    ∙ sym (each-joined (instanceBytes form) (reverse (down d (stack .below))) (stack .top ∷ [])) in
+    ap₂ (λ (k : ℕ) (t : List ℕ). wordBytes (k + 1) ++ (numberBytes form (stack .external) ++ t)) size all-of
 
-pub read-stack : (image : List ℕ) (at d external : ℕ) (top : Instance) (below : List Instance) → d ≡ depthAt image at
+pub read-stack : (form : Form) (image : List ℕ) (at d external : ℕ) (top : Instance) (below : List Instance) → d ≡ depthAt image at
     → length below ≡ mostBelow
-    → external ≡ numberAt image (at + wordSize) → top ≡ instanceAt image (at + stackFields + instanceSize * d)
-    → take d below ≡ items (instanceAt image) instanceSize d (at + stackFields)
-    → ReadsStack image at (record { top = top; below = below; depth = d; external = external })
+    → external ≡ numberAt form image (at + wordSize) → top ≡ instanceAt form image (at + stackFields form + instanceSize form * d)
+    → take d below ≡ items (instanceAt form image) (instanceSize form) d (at + stackFields form)
+    → ReadsStack form image at (record { top = top; below = below; depth = d; external = external })
 unfolding stackAt depthAt
-read-stack image at d external top below e seven x t b =
+read-stack form image at d external top below e seven x t b =
     let low : d ≤ mostBelow = omega arith in
     let full : min d mostBelow ≡ d = omega arith in
-    let here = t ∙ ap (λ (k : ℕ). instanceAt image (at + stackFields + instanceSize * k)) e in
-    let read = b ∙ ap (λ (k : ℕ). items (instanceAt image) instanceSize k (at + stackFields)) e in
+    let here = t ∙ ap (λ (k : ℕ). instanceAt form image (at + stackFields form + instanceSize form * k)) e in
+    let read = b ∙ ap (λ (k : ℕ). items (instanceAt form image) (instanceSize form) k (at + stackFields form)) e in
     let under = ap (λ (k : ℕ). down k below) full ∙ up-down d below (omega arith) ∙ ap (λ (l : List Instance). reverse l) read in
     record { depth = e; low = low; means = λ i. record { external = x i; top = here i; below = under i } }
 
 -- the offset past one stack more
-pub end-more : (image : List ℕ) (at i o depth : ℕ) → o ≡ rowEnd (stackSizeAt image) i at → depth ≡ depthAt image o
-    → o + stackSize depth ≡ rowEnd (stackSizeAt image) (i + 1) at
+pub end-more : (form : Form) (image : List ℕ) (at i o depth : ℕ) → o ≡ rowEnd (stackSizeAt form image) i at → depth ≡ depthAt image o
+    → o + stackSize form depth ≡ rowEnd (stackSizeAt form image) (i + 1) at
 unfolding stackSizeAt
-end-more image at i o depth e d =
-    sym (end-last (stackSizeAt image) i at ∙ ap (λ (k : ℕ). k + stackSizeAt image k) (sym e) ∙ ap (λ (k : ℕ). o + stackSize k) (sym d))
+end-more form image at i o depth e d =
+    sym (end-last (stackSizeAt form image) i at ∙ ap (λ (k : ℕ). k + stackSizeAt form image k) (sym e)
+    ∙ ap (λ (k : ℕ). o + stackSize form k) (sym d))

@@ -13,6 +13,7 @@ use Rattle.writing.proofs.WritingLaws.{whole}
 use Rattle.load.specs.declared.Agent.{Agent}
 use Rattle.load.specs.Load.{bytesOf, isWellFormedAgent}
 use Rattle.image.specs.declared.save.Saved.{Saved}
+use Rattle.image.specs.Form.{newest}
 use Rattle.image.specs.Writes.{WritesImage}
 use Rattle.image.specs.Saves.{imageOfAgent, saveRefusal, Saves}
 
@@ -31,7 +32,8 @@ module _ (a : Agent) (bytes : List ℕ) (r : Saved) where
   pub unformed : isWellFormedAgent a ≡ false → r ≡ record { refusal = 10; size = 0 } → Saves a bytes bytes r
   unformed f h = refused 10 (rw f refl) (λ e. absurd (omega arith)) h
 
-module _ (a : Agent) (scratch before : List ℕ) (n : ℕ) (formed : isWellFormedAgent a ≡ true) (w : WritesImage (bytesOf a) (a .state) scratch n) where
+module _ (a : Agent) (scratch before : List ℕ) (n : ℕ) (formed : isWellFormedAgent a ≡ true)
+    (w : WritesImage newest (bytesOf a) (a .state) scratch n) where
   size-is : length (imageOfAgent a) ≡ n
   size-is = ap length (sym (w .image)) ∙ length-take-le n scratch (w .room)
 

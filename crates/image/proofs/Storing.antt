@@ -1,4 +1,5 @@
--- A well-formed state of an accepted library can be stored: every kind has a code, every stack and every environment its room.
+-- A well-formed state of an accepted library can be stored in the newest form: every kind has a code, every stack and every environment
+-- its room.
 use Prim.Native.Nat.{ℕ, zero, suc, _+_, _<_, _≤_}
 use native.Mathlib.Omega.{arith}
 use mathlib.Core.Path.{_≡_, refl, sym, ap, subst⁻¹}
@@ -15,6 +16,7 @@ use Rattle.lists.proofs.AllLaws.{all-at, all-weaker}
 use Rattle.lists.proofs.TestLaws.{all-joined}
 use Rattle.lists.proofs.TestCounts.{every-all, some-any}
 use Rattle.literal.specs.declared.Literal.{Literal}
+use Rattle.literal.specs.Environment.{isEnv}
 use Rattle.belief.specs.Beliefs
 use Rattle.belief.specs.Beliefs.{areBeliefs}
 use Rattle.library.specs.Plan.{Plan, Library, noPlan, noBranch}
@@ -40,7 +42,8 @@ use Rattle.model.proofs.WellFormedTest.{test-formed}
 use Rattle.model.proofs.QueueBound.{queue-few}
 use Rattle.model.proofs.OriginLaws.{origin-same, origin-equal}
 use Rattle.state.specs.View.{mostBelow}
-use Rattle.image.specs.EventImage.{lastKind, isKind}
+use Rattle.image.specs.Form.{newest}
+use Rattle.image.specs.EventImage.{lastKind, isKind, isEventStorable}
 use Rattle.image.specs.StackImage.{isStorable, isStackStorable, upward}
 use Rattle.image.proofs.ImageLaws.{Storable}
 
@@ -117,7 +120,8 @@ module _ {A : Type 0} where
   all-reverse test [] h = refl
   all-reverse test (x ∷ xs) h =
       let parts = and-parts (test x) (all test xs) h in
-      rw (reverse-cons x xs) (all-joined test (reverse xs) (x ∷ []) (all-reverse test xs (parts .1)) (and-both (test x) true (parts .0) refl))
+      rw (reverse-cons x xs) (all-joined test (reverse xs) (x ∷ []) (all-reverse test xs (parts .1))
+      (and-both (test x) true (parts .0) refl))
 
   all-both-true : (one two : A → Bool) (xs : List A) → all one xs ≡ true → all two xs ≡ true → all (λ x. one x && two x) xs ≡ true
   unfolding all
@@ -177,7 +181,8 @@ module _ (library : Library) (ok : libraryOk library ≡ true) where
   unfolding planOf branchesOf branchOf
   tried-kind x h e =
       goal-low (branchOf library x .kind)
-      (kind-at (getD (library .plans) (x .plan) noPlan) (x .state) (lastTried x) (all-at planOk (library .plans) (x .plan) noPlan plans-ok (h .plan)))
+      (kind-at (getD (library .plans) (x .plan) noPlan) (x .state) (lastTried x)
+      (all-at planOk (library .plans) (x .plan) noPlan plans-ok (h .plan)))
       (suspended-goal (x .tried) (branchOf library x .kind) (x .status) (h .status) e)
 
 -- ---- Events
@@ -193,9 +198,11 @@ unfolding isGoalFor
 goal-kind library ok x sound asleep event h =
     let parts = and-parts (isOf (goalOf x) event) _ h in
     let kind = and-parts (eqb (branchOf library x .kind) (event .kind)) _ (parts .1) .0 in
-    le-leb (event .kind) lastKind (omega (arith, eqb-true (branchOf library x .kind) (event .kind) kind, tried-kind library ok x sound asleep))
+    le-leb (event .kind) lastKind (omega
+    (arith, eqb-true (branchOf library x .kind) (event .kind) kind, tried-kind library ok x sound asleep))
 
-module _ (library : Library) (ok : libraryOk library ≡ true) (queue : List Event) (jobs : List Job) (once : (o : Origin) → count (isOf o) queue ≤ 1)
+module _ (library : Library) (ok : libraryOk library ≡ true) (queue : List Event) (jobs : List Job) (once : (o : Origin)
+    → count (isOf o) queue ≤ 1)
     (sounds : all (λ (job : Job). isSound library (job .instance)) jobs ≡ true) (goals : all (hasGoal library queue) jobs ≡ true) where
   -- every event of a goal's origin that someone posted has such a kind
   posted-kind : (o : Origin) → any (isPosted o) jobs ≡ true → all (λ (event : Event). not (isOf o event) || isKind event) queue ≡ true
@@ -203,7 +210,8 @@ module _ (library : Library) (ok : libraryOk library ≡ true) (queue : List Eve
   posted-kind o h =
       let good : Job → Bool = λ job. hasGoal library queue job && isSound library (job .instance) in
       let found =
-      both (isPosted o) good jobs h (all-both-true (hasGoal library queue) (λ (job : Job). isSound library (job .instance)) jobs goals sounds) in
+      both (isPosted o) good jobs h (all-both-true (hasGoal library queue) (λ (job : Job). isSound library (job .instance)) jobs goals
+      sounds) in
       let x = found .it .instance in
       let parts = and-parts (hasGoal library queue (found .it)) (isSound library x) (found .goods) in
       let posted = and-parts (isSuspended (x .status)) (sameOrigin o (goalOf x)) (found .tests) in
@@ -215,31 +223,35 @@ module _ (library : Library) (ok : libraryOk library ≡ true) (queue : List Eve
 
 -- ---- Stacks
 
-stored-jobs : (external : ℕ) (xs : List Instance) → all (λ (job : Job). isStorable (job .instance)) (jobsOn external xs) ≡ true
-    → all isStorable xs ≡ true
+stored-jobs : (external : ℕ) (xs : List Instance) → all (λ (job : Job). isStorable newest (job .instance)) (jobsOn external xs) ≡ true
+    → all (isStorable newest) xs ≡ true
 unfolding jobsOn all
 stored-jobs external [] h = refl
 stored-jobs external (x ∷ xs) h =
-    let parts = and-parts (isStorable x) _ h in
-    and-both (isStorable x) (all isStorable xs) (parts .0) (stored-jobs external xs (parts .1))
+    let parts = and-parts (isStorable newest x) _ h in
+    and-both (isStorable newest x) (all (isStorable newest) xs) (parts .0) (stored-jobs external xs (parts .1))
 
-stored-stack : (stack : Intention) → isStack stack ≡ true → all isStorable (stack .top ∷ stack .below) ≡ true → isStackStorable stack ≡ true
+stored-stack : (stack : Intention) → isStack stack ≡ true → all (isStorable newest) (stack .top ∷ stack .below) ≡ true
+    → isStackStorable newest stack ≡ true
 unfolding upward all
 stored-stack stack h k =
     let few : length (stack .below) ≤ mostBelow = omega (arith, stack-parts stack h .height) in
-    let parts = and-parts (isStorable (stack .top)) (all isStorable (stack .below)) k in
+    let parts = and-parts (isStorable newest (stack .top)) (all (isStorable newest) (stack .below)) k in
     and-both (leb (length (stack .below)) mostBelow) _ (le-leb (length (stack .below)) mostBelow few)
-    (all-joined isStorable (reverse (stack .below)) (stack .top ∷ []) (all-reverse isStorable (stack .below) (parts .1)) (and-both (isStorable (stack .top)) true (parts .0) refl))
+    (and-both (all (isStorable newest) (upward stack)) true
+    (all-joined (isStorable newest) (reverse (stack .below)) (stack .top ∷ []) (all-reverse (isStorable newest) (stack .below) (parts .1))
+    (and-both (isStorable newest (stack .top)) true (parts .0) refl))
+    refl)
 
-stored-stacks : (stacks : List Intention) → all isStack stacks ≡ true → all (λ (job : Job). isStorable (job .instance)) (live stacks) ≡ true
-    → all isStackStorable stacks ≡ true
+stored-stacks : (stacks : List Intention) → all isStack stacks ≡ true
+    → all (λ (job : Job). isStorable newest (job .instance)) (live stacks) ≡ true → all (isStackStorable newest) stacks ≡ true
 unfolding live all
 stored-stacks [] h k = refl
 stored-stacks (stack ∷ rest) h k =
     let parts = and-parts (isStack stack) (all isStack rest) h in
     let own = jobsOn (stack .external) (stack .top ∷ stack .below) in
-    let test : Job → Bool = λ job. isStorable (job .instance) in
-    and-both (isStackStorable stack) (all isStackStorable rest)
+    let test : Job → Bool = λ job. isStorable newest (job .instance) in
+    and-both (isStackStorable newest stack) (all (isStackStorable newest) rest)
     (stored-stack stack (parts .0) (stored-jobs (stack .external) (stack .top ∷ stack .below) (all-left test own (live rest) k)))
     (stored-stacks rest (parts .1) (all-right test own (live rest) k))
 
@@ -277,16 +289,16 @@ module _ (library : Library) (ok : libraryOk library ≡ true) (s : AgentState) 
       by-cases (isGoal (event .origin)) (λ g. goal-coded i low g)
       (λ f. le-leb (event .kind) lastKind (omega (arith, leb-true (event .kind) toldKind (rw f at local)))))
 
-  envs-stored : all (λ (job : Job). isStorable (job .instance)) jobs ≡ true
+  envs-stored : all (λ (job : Job). isStorable newest (job .instance)) jobs ≡ true
   envs-stored =
-      all-weaker (λ (job : Job). isSound library (job .instance)) (λ (job : Job). isStorable (job .instance))
-      (λ job e. sound-parts library (job .instance) e .env) jobs sounds
+      all-weaker (λ (job : Job). isSound library (job .instance)) (λ (job : Job). isStorable newest (job .instance))
+      (λ job e. and-both (isEnv (job .instance .env)) true (sound-parts library (job .instance) e .env) refl) jobs sounds
 
-  stacks-stored : all isStackStorable (s .stacks) ≡ true
+  stacks-stored : all (isStackStorable newest) (s .stacks) ≡ true
   stacks-stored = stored-stacks (s .stacks) (every-all isStack (s .stacks) (h .stacked)) envs-stored
 
 -- what is well formed can be stored
-pub formed-storable : (bytes : List ℕ) (s : AgentState) → Accepted bytes → isWellFormed (libraryOf bytes) s ≡ true → Storable bytes s
+pub formed-storable : (bytes : List ℕ) (s : AgentState) → Accepted bytes → isWellFormed (libraryOf bytes) s ≡ true → Storable newest bytes s
 formed-storable bytes s accepted formed =
     let h = test-formed (libraryOf bytes) s formed in
     let ok = library-ok bytes accepted in
@@ -294,7 +306,10 @@ formed-storable bytes s accepted formed =
       size = library-most bytes accepted;
       beliefs = few-of (s .beliefs) (h .table);
       queued = queue-few h;
-      kinds = kinds-coded (libraryOf bytes) ok s h;
+      events = all-weaker isKind (isEventStorable newest) (λ e k. and-both (isKind e) true k refl) (s .queue)
+          (kinds-coded (libraryOf bytes) ok s h);
       stacked = h .few;
       storable = stacks-stored (libraryOf bytes) ok s h;
+      taken = refl;
+      made = refl;
     }

@@ -1,18 +1,23 @@
 -- Numbers of 16 bits are read back where they were written, and a loop that writes them.
-use Prim.Native.Nat.{ℕ, zero, suc, _+_, _*_, _<_}
+use Prim.Native.Nat.{ℕ, zero, suc, _+_, _*_, _/_, _%_, _<_}
 use native.Mathlib.Nat.{mul-suc, add-assoc, add-zero}
 use native.Mathlib.Numerals.{add-one}
 use native.Mathlib.Omega.{arith}
-use mathlib.Core.Path.{_≡_, refl, ap, sym, _∙_}
+use mathlib.Core.Path.{_≡_, refl, ap, ap₂, sym, _∙_}
+use mathlib.Core.Bool.{true}
 use mathlib.Core.List.{List, [], _∷_, _++_, append-nil, append-assoc}
 use lib.Dec.{lit<}
 use lib.ListN.{length, take, getD, set}
 use lib.Seq.{take-suc, getD-append-add}
+use borrow.Author.Tests.{ltb-true}
 use Rattle.lists.specs.Counts.{each}
 use Rattle.library.specs.Bytes.{u16At}
 use Rattle.writing.specs.Writing.{Wrote}
 use Rattle.writing.proofs.WritingLaws.{then, widen, written}
-use Rattle.image.specs.Words.{wordsBytes, numberBytes, numberAt}
+use Rattle.image.specs.declared.form.Form.{Form}
+use Rattle.image.specs.declared.form.Form.the-variants.{Narrow, Wide}
+use Rattle.image.specs.Form.{numberSize}
+use Rattle.image.specs.Words.{wordsBytes, longWords, numberBytes, numberAt, holdsNumber}
 
 -- ---- Reading back
 
@@ -42,9 +47,24 @@ pub word-first : (before words after : List ℕ) → 0 < length words
 word-first before words after h =
     ap (u16At (before ++ (wordsBytes words ++ after))) (sym (add-zero (length before))) ∙ word-at before words after 0 h
 
--- a number of an event or of an instance
-pub number-at : (before after : List ℕ) (n : ℕ) → numberAt (before ++ (numberBytes n ++ after)) (length before) ≡ n
-number-at before after n = word-first before (n ∷ []) after (lit< tt)
+-- a number of an event or of an instance, where the form holds it
+pub number-at : (form : Form) (before after : List ℕ) (n : ℕ) → holdsNumber form n ≡ true
+    → numberAt form (before ++ (numberBytes form n ++ after)) (length before) ≡ n
+unfolding numberBytes numberAt
+number-at Narrow before after n h =
+    let small : n < 65536 = ltb-true n 65536 h in
+    let same : n % 65536 % 65536 ≡ n = omega arith in
+    ap (λ (k : ℕ). k % 65536) (word-first before (n % 65536 ∷ []) after (lit< tt)) ∙ same
+number-at Wide before after n h =
+    let low = word-first before (longWords n) after (lit< tt) in
+    let high = word-at before (longWords n) after 1 (lit< tt) in
+    let same : n % 65536 + 65536 * (n / 65536) ≡ n = omega arith in
+    ap₂ (λ (l k : ℕ). l + 65536 * k) low high ∙ same
+
+pub length-number : (form : Form) (n : ℕ) → length (numberBytes form n) ≡ numberSize form
+unfolding numberBytes
+length-number Narrow n = refl
+length-number Wide n = refl
 
 pub length-bytes : (words : List ℕ) → length (wordsBytes words) ≡ 2 * length words
 length-bytes [] = refl

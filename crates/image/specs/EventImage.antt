@@ -1,6 +1,6 @@
--- An event in an image: 22 bytes (docs/IMAGE-FORMAT.md, "An event"; document 02, request 3).
+-- An event in an image (docs/IMAGE-FORMAT.md, "An event"; document 02, requests 3 and 5).
 use Prim.Native.Nat.{ℕ, _+_, _*_}
-use mathlib.Core.Bool.{Bool, cond}
+use mathlib.Core.Bool.{Bool, cond, _&&_}
 use mathlib.Core.List.{List, _∷_, _++_}
 use lib.Dec.{eqb, leb}
 use Rattle.library.specs.Bytes.{u16At, literalAt}
@@ -8,7 +8,9 @@ use Rattle.model.specs.declared.Event.{Event}
 use Rattle.model.specs.declared.Origin.{Origin}
 use Rattle.model.specs.declared.Origin.the-variants.{External, Goal}
 use Rattle.model.specs.State.{mostQueued}
-use Rattle.image.specs.Words.{wordSize, wordsBytes, longWords, longAt, numberSize, numberBytes, numberAt, listBytes, listAt}
+use Rattle.image.specs.declared.form.Form.{Form}
+use Rattle.image.specs.Form.{newest, numberSize}
+use Rattle.image.specs.Words.{wordSize, wordsBytes, longWords, longAt, numberBytes, numberAt, holdsNumber, listBytes, listAt}
 use Rattle.image.specs.BeliefImage.{literalWords}
 
 -- ---- Origins: 0 external, 1 a goal; an external event has 0 for state and branch
@@ -51,34 +53,38 @@ isKind e = leb (e .kind) lastKind
 abbrev pub eventFields : ℕ
 eventFields = 20
 
-abbrev pub eventSize : ℕ
-eventSize = eventFields + numberSize
+abbrev pub eventSize : Form → ℕ
+eventSize form = eventFields + numberSize form
 
 abbrev pub eventWords : Event → List ℕ
 eventWords e =
     originCode (e .origin) ∷ originState (e .origin) ∷ originBranch (e .origin) ∷ e .kind
     ∷ (literalWords (e .literal) ++ longWords (e .failed))
 
-unfoldable pub eventBytes : Event → List ℕ
-eventBytes e = wordsBytes (eventWords e) ++ numberBytes (originNumber (e .origin))
+unfoldable pub eventBytes : Form → Event → List ℕ
+eventBytes form e = wordsBytes (eventWords e) ++ numberBytes form (originNumber (e .origin))
 
-unfoldable pub eventAt : List ℕ → ℕ → Event
-eventAt bytes at =
+unfoldable pub eventAt : Form → List ℕ → ℕ → Event
+eventAt form bytes at =
     record {
-      origin = originOf (u16At bytes at) (u16At bytes (at + 2)) (u16At bytes (at + 4)) (numberAt bytes (at + eventFields));
+      origin = originOf (u16At bytes at) (u16At bytes (at + 2)) (u16At bytes (at + 4)) (numberAt form bytes (at + eventFields));
       kind = kindOf (u16At bytes (at + 6));
       literal = literalAt bytes (at + 8);
       failed = longAt bytes (at + 16);
     }
 
+-- its kind has a code, and the form holds its number
+abbrev pub isEventStorable : Form → Event → Bool
+isEventStorable form e = isKind e && holdsNumber form (originNumber (e .origin))
+
 -- ---- The queue
 
 -- how many bytes it has at most
 abbrev pub mostEventsSize : ℕ
-mostEventsSize = wordSize + eventSize * mostQueued
+mostEventsSize = wordSize + eventSize newest * mostQueued
 
-unfoldable pub eventsBytes : List Event → List ℕ
-eventsBytes queue = listBytes eventBytes queue
+unfoldable pub eventsBytes : Form → List Event → List ℕ
+eventsBytes form queue = listBytes (eventBytes form) queue
 
-unfoldable pub eventsAt : List ℕ → ℕ → List Event
-eventsAt bytes at = listAt eventAt eventSize mostQueued bytes at
+unfoldable pub eventsAt : Form → List ℕ → ℕ → List Event
+eventsAt form bytes at = listAt (eventAt form) (eventSize form) mostQueued bytes at

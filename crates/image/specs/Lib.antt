@@ -1,3 +1,4 @@
+pub mod Form
 pub mod Words
 pub mod BeliefImage
 pub mod EventImage

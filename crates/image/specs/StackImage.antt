@@ -1,5 +1,4 @@
--- Instances and stacks in an image: 26 bytes for an instance, 4 more for a stack (docs/IMAGE-FORMAT.md, "A stack", "An instance";
--- document 02, request 3).
+-- Instances and stacks in an image (docs/IMAGE-FORMAT.md, "A stack", "An instance"; document 02, requests 3 and 5).
 use Prim.Native.Nat.{ℕ, zero, suc, _+_, _-_, _*_, min}
 use mathlib.Core.Bool.{Bool, cond, _&&_}
 use mathlib.Core.List.{List, [], _∷_, _++_, reverse}
@@ -17,7 +16,9 @@ use Rattle.model.specs.declared.Status.the-variants.{Active, Waiting, Suspended
 use Rattle.model.specs.State.{mostStacks, Intention}
 use Rattle.model.specs.Turn.{heightOf}
 use Rattle.state.specs.View.{mostBelow}
-use Rattle.image.specs.Words.{wordSize, wordBytes, wordsBytes, numberSize, numberBytes, numberAt, listBytes}
+use Rattle.image.specs.declared.form.Form.{Form}
+use Rattle.image.specs.Form.{newest, numberSize}
+use Rattle.image.specs.Words.{wordSize, wordBytes, wordsBytes, numberBytes, numberAt, holdsNumber, listBytes}
 use Rattle.image.specs.Rows.{row}
 
 -- ---- Status: 0 active, 1 waiting, 2 suspended
@@ -50,19 +51,19 @@ envAt bytes at = record { terms = entriesAt bytes firstVariable 8 at }
 abbrev pub instanceFields : ℕ
 instanceFields = 24
 
-abbrev pub instanceSize : ℕ
-instanceSize = instanceFields + numberSize
+abbrev pub instanceSize : Form → ℕ
+instanceSize form = instanceFields + numberSize form
 
 abbrev pub placeWords : Instance → List ℕ
 placeWords x = x .plan ∷ x .state ∷ x .tried ∷ statusCode (x .status) ∷ []
 
-unfoldable pub instanceBytes : Instance → List ℕ
-instanceBytes x = wordsBytes (placeWords x) ++ (wordsBytes (x .env .terms) ++ numberBytes (x .id))
+unfoldable pub instanceBytes : Form → Instance → List ℕ
+instanceBytes form x = wordsBytes (placeWords x) ++ (wordsBytes (x .env .terms) ++ numberBytes form (x .id))
 
-unfoldable pub instanceAt : List ℕ → ℕ → Instance
-instanceAt bytes at =
+unfoldable pub instanceAt : Form → List ℕ → ℕ → Instance
+instanceAt form bytes at =
     record {
-      id = numberAt bytes (at + instanceFields);
+      id = numberAt form bytes (at + instanceFields);
       plan = u16At bytes at;
       env = envAt bytes (at + 8);
       state = u16At bytes (at + 2);
@@ -70,54 +71,55 @@ instanceAt bytes at =
       status = statusOf (u16At bytes (at + 6));
     }
 
--- its environment has eight entries, each a constant or the variable itself
-abbrev pub isStorable : Instance → Bool
-isStorable x = isEnv (x .env)
+-- its environment has eight entries, each a constant or the variable itself, and the form holds its id
+abbrev pub isStorable : Form → Instance → Bool
+isStorable form x = isEnv (x .env) && holdsNumber form (x .id)
 
 -- ---- A stack: how many instances, the number of the external event, the instances with the lowest first
 
 -- how many bytes stand before its instances
-abbrev pub stackFields : ℕ
-stackFields = wordSize + numberSize
+abbrev pub stackFields : Form → ℕ
+stackFields form = wordSize + numberSize form
 
 -- the instances with the lowest first
 unfoldable pub upward : Intention → List Instance
 upward stack = reverse (stack .below) ++ (stack .top ∷ [])
 
-unfoldable pub stackBytes : Intention → List ℕ
-stackBytes stack = wordBytes (heightOf stack) ++ (numberBytes (stack .external) ++ each instanceBytes (upward stack))
+unfoldable pub stackBytes : Form → Intention → List ℕ
+stackBytes form stack = wordBytes (heightOf stack) ++ (numberBytes form (stack .external) ++ each (instanceBytes form) (upward stack))
 
--- at most 7 below the top, and every instance storable
-abbrev pub isStackStorable : Intention → Bool
-isStackStorable stack = leb (length (stack .below)) mostBelow && all isStorable (upward stack)
+-- at most 7 below the top, every instance storable, and the form holds the external event's number
+abbrev pub isStackStorable : Form → Intention → Bool
+isStackStorable form stack =
+    leb (length (stack .below)) mostBelow && (all (isStorable form) (upward stack) && holdsNumber form (stack .external))
 
 -- how many are below the top
 unfoldable pub depthAt : List ℕ → ℕ → ℕ
 depthAt bytes at = min (u16At bytes at - 1) mostBelow
 
-unfoldable pub stackAt : List ℕ → ℕ → Intention
-stackAt bytes at =
+unfoldable pub stackAt : Form → List ℕ → ℕ → Intention
+stackAt form bytes at =
     record {
-      external = numberAt bytes (at + wordSize);
-      top = instanceAt bytes (at + stackFields + instanceSize * depthAt bytes at);
-      below = reverse (items (instanceAt bytes) instanceSize (depthAt bytes at) (at + stackFields));
+      external = numberAt form bytes (at + wordSize);
+      top = instanceAt form bytes (at + stackFields form + instanceSize form * depthAt bytes at);
+      below = reverse (items (instanceAt form bytes) (instanceSize form) (depthAt bytes at) (at + stackFields form));
     }
 
 -- how many bytes a stack has with so many instances below its top
-abbrev pub stackSize : ℕ → ℕ
-stackSize depth = stackFields + instanceSize + instanceSize * depth
+abbrev pub stackSize : Form → ℕ → ℕ
+stackSize form depth = stackFields form + instanceSize form + instanceSize form * depth
 
-unfoldable pub stackSizeAt : List ℕ → ℕ → ℕ
-stackSizeAt bytes at = stackSize (depthAt bytes at)
+unfoldable pub stackSizeAt : Form → List ℕ → ℕ → ℕ
+stackSizeAt form bytes at = stackSize form (depthAt bytes at)
 
 -- ---- The stacks
 
 -- how many bytes they have at most
 abbrev pub mostStacksSize : ℕ
-mostStacksSize = wordSize + stackSize mostBelow * mostStacks
+mostStacksSize = wordSize + stackSize newest mostBelow * mostStacks
 
-unfoldable pub stacksBytes : List Intention → List ℕ
-stacksBytes stacks = listBytes stackBytes stacks
+unfoldable pub stacksBytes : Form → List Intention → List ℕ
+stacksBytes form stacks = listBytes (stackBytes form) stacks
 
-unfoldable pub stacksAt : List ℕ → ℕ → List Intention
-stacksAt bytes at = row (stackAt bytes) (stackSizeAt bytes) (min (u16At bytes at) mostStacks) (at + wordSize)
+unfoldable pub stacksAt : Form → List ℕ → ℕ → List Intention
+stacksAt form bytes at = row (stackAt form bytes) (stackSizeAt form bytes) (min (u16At bytes at) mostStacks) (at + wordSize)

@@ -1,9 +1,13 @@
--- Numbers and lists in an image (docs/IMAGE-FORMAT.md; document 02, request 3). dMARS has no such schema.
+-- Numbers and lists in an image (docs/IMAGE-FORMAT.md; document 02, requests 3 and 5). dMARS has no such schema.
 use Prim.Native.Nat.{ℕ, _+_, _*_, _/_, _%_, min}
+use mathlib.Core.Bool.{Bool, true}
 use mathlib.Core.List.{List, [], _∷_, _++_}
+use lib.Dec.{ltb}
 use lib.ListN.{length}
 use Rattle.lists.specs.Counts.{each}
 use Rattle.library.specs.Bytes.{u16At, items}
+use Rattle.image.specs.declared.form.Form.{Form}
+use Rattle.image.specs.declared.form.Form.the-variants.{Narrow, Wide}
 
 -- ---- Numbers of 16 bits, the low byte first
 
@@ -32,15 +36,22 @@ longAt bytes at = u16At bytes at + 65536 * u16At bytes (at + wordSize)
 
 -- ---- The number of an external event or of an instance, and how many there were
 
--- how many bytes it has
-abbrev pub numberSize : ℕ
-numberSize = wordSize
+-- as numbers of 16 bits
+abbrev pub numberWords : Form → ℕ → List ℕ
+numberWords Narrow n = n % 65536 ∷ []
+numberWords Wide n = longWords n
 
-abbrev pub numberBytes : ℕ → List ℕ
-numberBytes n = wordBytes n
+unfoldable pub numberBytes : Form → ℕ → List ℕ
+numberBytes form n = wordsBytes (numberWords form n)
 
-abbrev pub numberAt : List ℕ → ℕ → ℕ
-numberAt bytes at = u16At bytes at
+unfoldable pub numberAt : Form → List ℕ → ℕ → ℕ
+numberAt Narrow bytes at = u16At bytes at % 65536
+numberAt Wide bytes at = longAt bytes at
+
+-- whether a form holds a number: the older one those of 16 bits, the newest every one that there is
+abbrev pub holdsNumber : Form → ℕ → Bool
+holdsNumber Narrow n = ltb n 65536
+holdsNumber Wide n = true
 
 -- ---- Offsets
 

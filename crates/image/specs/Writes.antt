@@ -5,10 +5,11 @@ use mathlib.Core.List.{List}
 use lib.ListN.{length, take}
 use Rattle.state.specs.declared.State.{State}
 use Rattle.state.specs.View.{viewState}
-use Rattle.image.specs.Image.{imageOf, mostImage}
+use Rattle.image.specs.declared.form.Form.{Form}
+use Rattle.image.specs.Image.{imageAs, mostImage}
 
--- the image in the first bytes of the buffer
-pub record WritesImage (library : List ℕ) (s : State) (after : List ℕ) (size : ℕ) : Type 0 where
-  pub image : take size after ≡ imageOf library (viewState s)
+-- the image in the first bytes of the buffer, in a form
+pub record WritesImage (form : Form) (library : List ℕ) (s : State) (after : List ℕ) (size : ℕ) : Type 0 where
+  pub image : take size after ≡ imageAs form library (viewState s)
   pub room : size ≤ length after
   pub few : size ≤ mostImage

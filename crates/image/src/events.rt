@@ -5,10 +5,13 @@ ghost use lib.ListN.{length, take};
 ghost use Rattle.library.specs.Bytes.{items};
 ghost use Rattle.model.specs.State.{mostQueued};
 ghost use Rattle.writing.specs.Writing.{Wrote};
+ghost use Rattle.image.specs.Form.{newest};
 ghost use Rattle.image.specs.Words.{wordSize, farthest};
 ghost use Rattle.image.specs.EventImage.{originCode, originState, originBranch, originNumber, originOf, kindOf};
 ghost use Rattle.image.specs.EventImage.{eventSize, eventBytes, eventAt, eventsBytes};
-use crate::words::NUMBER_BYTES;
+use crate::form::Form;
+use crate::form::numbers_size;
+use crate::words::HIGH;
 use crate::words::long_at;
 use crate::words::number_at;
 use crate::words::put_number;
@@ -23,8 +26,6 @@ use state::MOST_QUEUED;
 
 // How many bytes of an event stand before its number.
 const EVENT_FIELDS: usize = 20;
-// How many bytes an event has.
-const EVENT_BYTES: usize = EVENT_FIELDS + NUMBER_BYTES;
 // The last kind of an event: a query.
 const LAST_EVENT_KIND: u16 = 4;
 
@@ -97,9 +98,9 @@ fn origin_of(code: u16, state: u16, branch: u16, number: Number) -> Origin
 
 // ---- Writing
 
-fn put_event(out: &mut [u8], at: usize, event: Event) -> usize
-    requires { ⌜ at + eventSize ≤ length (now out) ⌝ }
-    ensures { λ r. ⌜ Wrote eventSize (now (out .entry)) (now (out .exit)) at r (eventBytes event) ⌝ }
+fn put_event(out: &mut [u8], at: usize, form: Form, event: Event) -> usize
+    requires { ⌜ at + eventSize newest ≤ length (now out) ⌝ }
+    ensures { λ r. ⌜ Wrote (eventSize newest) (now (out .entry)) (now (out .exit)) at r (eventBytes form event) ⌝ }
 {
     let origin = event.origin;
     let l = event.literal;
@@ -116,23 +117,29 @@ fn put_event(out: &mut [u8], at: usize, event: Event) -> usize
         l.first,
         l.second,
         l.third,
-        (event.failed % 65536) as u16,
-        (event.failed / 65536) as u16,
+        (event.failed % HIGH) as u16,
+        (event.failed / HIGH) as u16,
     ];
     let o = put_words(out, at, &words);
-    put_number(out, o, number)
+    put_number(out, o, form, number)
 }
 
 // How many events, and the first n of the queue.
-pub(crate) fn put_events(out: &mut [u8], at: usize, queue: [Event; MOST_QUEUED], n: usize) -> usize
-    requires { ⌜ (n ≤ mostQueued) × (at + (wordSize + eventSize * n) ≤ length (now out)) ⌝ }
-    ensures { λ r. ⌜ Wrote (wordSize + eventSize * n) (now (out .entry)) (now (out .exit)) at r (eventsBytes (take n queue)) ⌝ }
+pub(crate) fn put_events(
+    out: &mut [u8],
+    at: usize,
+    form: Form,
+    queue: [Event; MOST_QUEUED],
+    n: usize,
+) -> usize
+    requires { ⌜ (n ≤ mostQueued) × (at + (wordSize + eventSize newest * n) ≤ length (now out)) ⌝ }
+    ensures { λ r. ⌜ Wrote (wordSize + eventSize newest * n) (now (out .entry)) (now (out .exit)) at r (eventsBytes form (take n queue)) ⌝ }
 {
     let mut o = put_word(out, at, n as u16);
     let mut i: usize = 0;
     while i < n {
         let event = queue[i];
-        o = put_event(out, o, event);
+        o = put_event(out, o, form, event);
         i += 1;
     }
     o
@@ -149,14 +156,14 @@ fn kind_of(code: u16) -> u16
     code
 }
 
-fn event_at(image: &[u8], at: usize) -> Event
-    requires { ⌜ at + eventSize ≤ farthest ⌝ }
-    ensures { λ r. ⌜ r ≡ eventAt (now (image .entry)) at ⌝ }
+fn event_at(image: &[u8], at: usize, form: Form) -> Event
+    requires { ⌜ at + eventSize newest ≤ farthest ⌝ }
+    ensures { λ r. ⌜ r ≡ eventAt form (now (image .entry)) at ⌝ }
 {
     let code = u16_at(image, at);
     let state = u16_at(image, at + 2);
     let branch = u16_at(image, at + 4);
-    let number = number_at(image, at + EVENT_FIELDS);
+    let number = number_at(image, at + EVENT_FIELDS, form);
     let origin = origin_of(code, state, branch, number);
     let kind = kind_of(u16_at(image, at + 6));
     let literal = literal_at(image, at + 8);
@@ -170,15 +177,15 @@ fn event_at(image: &[u8], at: usize) -> Event
 }
 
 // The first n places of the queue, read one after the other.
-pub(crate) fn events_at(image: &[u8], at: usize, n: usize) -> [Event; MOST_QUEUED]
-    requires { ⌜ (n ≤ mostQueued) × (at + eventSize * mostQueued ≤ farthest) ⌝ }
-    ensures { λ r. ⌜ take n r ≡ items (eventAt (now (image .entry))) eventSize n at ⌝ }
+pub(crate) fn events_at(image: &[u8], at: usize, form: Form, n: usize) -> [Event; MOST_QUEUED]
+    requires { ⌜ (n ≤ mostQueued) × (at + eventSize newest * mostQueued ≤ farthest) ⌝ }
+    ensures { λ r. ⌜ take n r ≡ items (eventAt form (now (image .entry))) (eventSize form) n at ⌝ }
 {
-    let nothing = event_at(image, at);
+    let nothing = event_at(image, at, form);
     let mut queue = [nothing; MOST_QUEUED];
     let mut i: usize = 0;
     while i < n {
-        let event = event_at(image, at + EVENT_BYTES * i);
+        let event = event_at(image, at + EVENT_FIELDS * i + numbers_size(form, i), form);
         queue[i] = event;
         i += 1;
     }

@@ -3,8 +3,11 @@ ghost use mathlib.Core.Path.{_≡_};
 ghost use Rattle.image.specs.Reads.{sizeIn, ReadsLibrary, ReadsState};
 use crate::beliefs::beliefs_at;
 use crate::events::events_at;
+use crate::form::ENTRY_BYTES;
+use crate::form::Form;
+use crate::form::contents_size;
+use crate::form::numbers_size;
 use crate::stacks::stacks_at;
-use crate::words::NUMBER_BYTES;
 use crate::words::WORD_BYTES;
 use crate::words::least;
 use crate::words::number_at;
@@ -19,31 +22,27 @@ pub(crate) struct LibraryCopy {
     pub size: usize,
 }
 
-// How many bytes an entry of the contents has: offset and length.
-const ENTRY_BYTES: usize = WORD_BYTES + WORD_BYTES;
-// How many bytes the contents have: five entries. The library begins there.
-pub(crate) const CONTENTS_BYTES: usize = ENTRY_BYTES * 5;
-
 // How many bytes of the library are there.
-fn library_size(image: &[u8]) -> usize
-    ensures { λ r. ⌜ r ≡ sizeIn (now (image .entry)) ⌝ }
+fn library_size(image: &[u8], from: usize) -> usize
+    ensures { λ r. ⌜ r ≡ sizeIn (now (image .entry)) from ⌝ }
 {
     let n = image.len();
-    if n < CONTENTS_BYTES {
+    if n < from {
         return 0;
     }
     let size = least(u16_at(image, WORD_BYTES) as usize, MOST_BYTES);
-    least(size, n - CONTENTS_BYTES)
+    least(size, n - from)
 }
 
-pub(crate) fn library_in(image: &[u8]) -> LibraryCopy
-    ensures { λ r. ⌜ ReadsLibrary (now (image .entry)) r ⌝ }
+pub(crate) fn library_in(image: &[u8], form: Form) -> LibraryCopy
+    ensures { λ r. ⌜ ReadsLibrary form (now (image .entry)) r ⌝ }
 {
-    let size = library_size(image);
+    let from = contents_size(form);
+    let size = library_size(image, from);
     let mut bytes = [0u8; MOST_BYTES];
     let mut i: usize = 0;
     while i < size {
-        bytes[i] = image[CONTENTS_BYTES + i];
+        bytes[i] = image[from + i];
         i += 1;
     }
     LibraryCopy {
@@ -52,8 +51,8 @@ pub(crate) fn library_in(image: &[u8]) -> LibraryCopy
     }
 }
 
-pub(crate) fn state_in(image: &[u8]) -> State
-    ensures { λ r. ⌜ ReadsState (now (image .entry)) r ⌝ }
+pub(crate) fn state_in(image: &[u8], form: Form) -> State
+    ensures { λ r. ⌜ ReadsState form (now (image .entry)) r ⌝ }
 {
     let b = u16_at(image, ENTRY_BYTES) as usize;
     let e = u16_at(image, ENTRY_BYTES * 2) as usize;
@@ -61,12 +60,12 @@ pub(crate) fn state_in(image: &[u8]) -> State
     let c = u16_at(image, ENTRY_BYTES * 4) as usize;
     let beliefs = beliefs_at(image, b);
     let queued = least(u16_at(image, e) as usize, MOST_QUEUED);
-    let queue = events_at(image, e + WORD_BYTES, queued);
-    let row = stacks_at(image, k);
+    let queue = events_at(image, e + WORD_BYTES, form, queued);
+    let row = stacks_at(image, k, form);
     let stacks = row.items;
     let stacked = row.count;
-    let taken = number_at(image, c);
-    let made = number_at(image, c + NUMBER_BYTES);
+    let taken = number_at(image, c, form);
+    let made = number_at(image, c + numbers_size(form, 1), form);
     State {
         beliefs: beliefs,
         queue: queue,

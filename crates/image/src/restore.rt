@@ -1,5 +1,6 @@
 // Restore: the agent that an image holds.
 ghost use Rattle.image.specs.Restores.{Restores};
+use crate::form::form_in;
 use crate::parts::library_in;
 use crate::parts::state_in;
 use crate::save::NOT_FORMED;
@@ -15,11 +16,12 @@ const NO_IMAGE: u16 = 12;
 pub fn restore(image: &[u8]) -> Loaded
     ensures { λ r. ⌜ Restores (now (image .entry)) r ⌝ }
 {
-    let copy = library_in(image);
-    let state = state_in(image);
+    let form = form_in(image);
+    let copy = library_in(image, form);
+    let state = state_in(image, form);
     let library = copy.bytes;
     let size = copy.size;
-    if !is_image_of(image, library, size, state) {
+    if !is_image_of(image, form, library, size, state) {
         return load::refused(NO_IMAGE);
     }
     if !is_well_formed(&library, size, state) {

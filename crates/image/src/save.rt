@@ -1,6 +1,7 @@
 // Save: the image of an agent, in a lent buffer.
 ghost use Rattle.image.specs.Saves.{Saves};
 use crate::bytes::put_bytes;
+use crate::form::Form;
 use crate::whole::MOST_IMAGE;
 use crate::whole::write_image;
 use formed::is_well_formed;
@@ -32,7 +33,7 @@ pub fn save(a: Agent, out: &mut [u8]) -> Saved
     }
     let mut scratch = [0u8; MOST_IMAGE];
     let own = &library[..length];
-    let n = write_image(&mut scratch, own, s);
+    let n = write_image(&mut scratch, Form::Wide, own, s);
     if out.len() < n {
         return Saved {
             refusal: TOO_SHORT,

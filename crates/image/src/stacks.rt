@@ -1,17 +1,19 @@
 // Instances and stacks in an image.
 ghost use mathlib.Core.Path.{_≡_};
-ghost use Prim.Native.Nat.{_+_, _≤_};
+ghost use Prim.Native.Nat.{_+_, _*_, _≤_};
 ghost use mathlib.Core.List.{map};
 ghost use lib.ListN.{length, take};
 ghost use Rattle.library.specs.Bytes.{u16At};
 ghost use Rattle.writing.specs.Writing.{Wrote};
 ghost use Rattle.model.specs.State.{mostStacks};
 ghost use Rattle.state.specs.View.{mostBelow, viewStack};
+ghost use Rattle.image.specs.Form.{newest};
 ghost use Rattle.image.specs.Words.{farthest};
 ghost use Rattle.image.specs.StackImage.{statusCode, statusOf, entryOf, envAt, instanceSize, instanceBytes, instanceAt};
 ghost use Rattle.image.specs.StackImage.{stackSize, mostStacksSize, stackBytes, depthAt, stacksBytes};
 ghost use Rattle.image.specs.Reads.{ReadsStack, ReadsStacks};
-use crate::words::NUMBER_BYTES;
+use crate::form::Form;
+use crate::form::numbers_size;
 use crate::words::WORD_BYTES;
 use crate::words::least;
 use crate::words::number_at;
@@ -30,10 +32,6 @@ use state::stacks::depth_of;
 
 // How many bytes of an instance stand before its id.
 const INSTANCE_FIELDS: usize = 24;
-// How many bytes an instance has.
-const INSTANCE_BYTES: usize = INSTANCE_FIELDS + NUMBER_BYTES;
-// How many bytes of a stack stand before its instances.
-const STACK_FIELDS: usize = WORD_BYTES + NUMBER_BYTES;
 
 // The stacks that were read, the first `count` of the array.
 pub(crate) struct StackRow {
@@ -53,9 +51,9 @@ fn status_code(status: Status) -> u16
     }
 }
 
-fn put_instance(out: &mut [u8], at: usize, x: Instance) -> usize
-    requires { ⌜ at + instanceSize ≤ length (now out) ⌝ }
-    ensures { λ r. ⌜ Wrote instanceSize (now (out .entry)) (now (out .exit)) at r (instanceBytes x) ⌝ }
+fn put_instance(out: &mut [u8], at: usize, form: Form, x: Instance) -> usize
+    requires { ⌜ at + instanceSize newest ≤ length (now out) ⌝ }
+    ensures { λ r. ⌜ Wrote (instanceSize newest) (now (out .entry)) (now (out .exit)) at r (instanceBytes form x) ⌝ }
 {
     let status = x.status;
     let env = x.env;
@@ -64,37 +62,44 @@ fn put_instance(out: &mut [u8], at: usize, x: Instance) -> usize
     let places = [x.plan, x.state, x.tried, code];
     let a = put_words(out, at, &places);
     let b = put_words(out, a, &terms);
-    put_number(out, b, x.id)
+    put_number(out, b, form, x.id)
 }
 
 // How many instances, the external event's number, and the instances with the lowest first.
-fn put_stack(out: &mut [u8], at: usize, stack: Stack) -> usize
-    requires { ⌜ at + stackSize mostBelow ≤ length (now out) ⌝ }
-    ensures { λ r. ⌜ Wrote (stackSize mostBelow) (now (out .entry)) (now (out .exit)) at r (stackBytes (viewStack stack)) ⌝ }
+fn put_stack(out: &mut [u8], at: usize, form: Form, stack: Stack) -> usize
+    requires { ⌜ at + stackSize newest mostBelow ≤ length (now out) ⌝ }
+    ensures { λ r. ⌜ Wrote (stackSize newest mostBelow) (now (out .entry)) (now (out .exit)) at r (stackBytes form (viewStack stack)) ⌝ }
 {
     let n = depth_of(stack);
     let top = stack.top;
     let head = put_word(out, at, (n + 1) as u16);
-    let mut o = put_number(out, head, stack.external);
+    let mut o = put_number(out, head, form, stack.external);
     let mut i: usize = 0;
     while i < n {
         let x = stack.below[i];
-        o = put_instance(out, o, x);
+        o = put_instance(out, o, form, x);
         i += 1;
     }
-    put_instance(out, o, top)
+    put_instance(out, o, form, top)
 }
 
 // How many stacks, and the first n.
-pub(crate) fn put_stacks(out: &mut [u8], at: usize, stacks: [Stack; MOST_STACKS], n: usize) -> usize
+pub(crate) fn put_stacks(
+    out: &mut [u8],
+    at: usize,
+    form: Form,
+    stacks: [Stack; MOST_STACKS],
+    n: usize,
+) -> usize
     requires { ⌜ (n ≤ mostStacks) × (at + mostStacksSize ≤ length (now out)) ⌝ }
-    ensures { λ r. ⌜ Wrote mostStacksSize (now (out .entry)) (now (out .exit)) at r (stacksBytes (map viewStack (take n stacks))) ⌝ }
+    ensures { λ r. ⌜ Wrote mostStacksSize (now (out .entry)) (now (out .exit)) at r
+        (stacksBytes form (map viewStack (take n stacks))) ⌝ }
 {
     let mut o = put_word(out, at, n as u16);
     let mut i: usize = 0;
     while i < n {
         let stack = stacks[i];
-        o = put_stack(out, o, stack);
+        o = put_stack(out, o, form, stack);
         i += 1;
     }
     o
@@ -149,16 +154,16 @@ fn env_at(image: &[u8], at: usize) -> Env
     }
 }
 
-fn instance_at(image: &[u8], at: usize) -> Instance
-    requires { ⌜ at + instanceSize ≤ farthest ⌝ }
-    ensures { λ r. ⌜ r ≡ instanceAt (now (image .entry)) at ⌝ }
+fn instance_at(image: &[u8], at: usize, form: Form) -> Instance
+    requires { ⌜ at + instanceSize newest ≤ farthest ⌝ }
+    ensures { λ r. ⌜ r ≡ instanceAt form (now (image .entry)) at ⌝ }
 {
     let plan = u16_at(image, at);
     let state = u16_at(image, at + 2);
     let tried = u16_at(image, at + 4);
     let status = status_of(u16_at(image, at + 6));
     let env = env_at(image, at + 8);
-    let id = number_at(image, at + INSTANCE_FIELDS);
+    let id = number_at(image, at + INSTANCE_FIELDS, form);
     Instance {
         id: id,
         plan: plan,
@@ -181,17 +186,26 @@ fn depth_at(image: &[u8], at: usize) -> usize
     least(height - 1, MOST_BELOW)
 }
 
-fn stack_at(image: &[u8], at: usize) -> Stack
-    requires { ⌜ at + stackSize mostBelow ≤ farthest ⌝ }
-    ensures { λ r. ⌜ ReadsStack (now (image .entry)) at r ⌝ }
+fn stack_at(image: &[u8], at: usize, form: Form) -> Stack
+    requires { ⌜ at + stackSize newest mostBelow ≤ farthest ⌝ }
+    ensures { λ r. ⌜ ReadsStack form (now (image .entry)) at r ⌝ }
 {
     let depth = depth_at(image, at);
-    let external = number_at(image, at + WORD_BYTES);
-    let top = instance_at(image, at + STACK_FIELDS + INSTANCE_BYTES * depth);
+    let external = number_at(image, at + WORD_BYTES, form);
+    let first = at + WORD_BYTES + numbers_size(form, 1);
+    let top = instance_at(
+        image,
+        first + INSTANCE_FIELDS * depth + numbers_size(form, depth),
+        form,
+    );
     let mut below = [top; MOST_BELOW];
     let mut i: usize = 0;
     while i < depth {
-        let x = instance_at(image, at + STACK_FIELDS + INSTANCE_BYTES * i);
+        let x = instance_at(
+            image,
+            first + INSTANCE_FIELDS * i + numbers_size(form, i),
+            form,
+        );
         below[i] = x;
         i += 1;
     }
@@ -203,19 +217,28 @@ fn stack_at(image: &[u8], at: usize) -> Stack
     }
 }
 
-pub(crate) fn stacks_at(image: &[u8], at: usize) -> StackRow
+// How many bytes a stack has with so many instances below its top.
+fn stack_size(form: Form, depth: usize) -> usize
+    requires { ⌜ depth ≤ mostBelow ⌝ }
+    ensures value { λ r. ⌜ r ≡ stackSize form depth ⌝ }
+    ensures small { λ r. ⌜ r ≤ stackSize newest mostBelow ⌝ }
+{
+    WORD_BYTES + INSTANCE_FIELDS * (depth + 1) + numbers_size(form, depth + 2)
+}
+
+pub(crate) fn stacks_at(image: &[u8], at: usize, form: Form) -> StackRow
     requires { ⌜ at + mostStacksSize ≤ farthest ⌝ }
-    ensures { λ r. ⌜ ReadsStacks (now (image .entry)) at r ⌝ }
+    ensures { λ r. ⌜ ReadsStacks form (now (image .entry)) at r ⌝ }
 {
     let count = least(u16_at(image, at) as usize, MOST_STACKS);
-    let first = stack_at(image, at + WORD_BYTES);
+    let first = stack_at(image, at + WORD_BYTES, form);
     let mut items = [first; MOST_STACKS];
     let mut o = at + WORD_BYTES;
     let mut i: usize = 0;
     while i < count {
-        let stack = stack_at(image, o);
+        let stack = stack_at(image, o, form);
         items[i] = stack;
-        o = o + (STACK_FIELDS + INSTANCE_BYTES + INSTANCE_BYTES * stack.depth);
+        o = o + stack_size(form, stack.depth);
         i += 1;
     }
     StackRow {

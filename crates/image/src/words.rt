@@ -1,16 +1,18 @@
 // Numbers into a lent buffer and out of a slice, the low byte first.
 ghost use mathlib.Core.Path.{_≡_};
-ghost use Prim.Native.Nat.{_+_, _≤_, min};
+ghost use Prim.Native.Nat.{_+_, _*_, _≤_, min};
 ghost use lib.ListN.{length};
 ghost use Rattle.writing.specs.Writing.{Wrote};
-ghost use Rattle.image.specs.Words.{wordSize, wordBytes, wordsBytes, wordsSize, longAt, farthest, numberSize, numberBytes, numberAt};
+ghost use Rattle.image.specs.Form.{newest, numberSize};
+ghost use Rattle.image.specs.Words.{wordSize, wordBytes, wordsBytes, wordsSize, longWords, longAt, farthest, numberBytes, numberAt};
+use crate::form::Form;
 use library::bytes::u16_at;
 use model::Number;
 
 // How many bytes a number of 16 bits has.
 pub(crate) const WORD_BYTES: usize = 2;
-// How many bytes the number of an external event or of an instance has.
-pub(crate) const NUMBER_BYTES: usize = WORD_BYTES;
+// What a number of 32 bits has above its low 16 bits counts so much.
+pub(crate) const HIGH: u32 = 65536;
 
 // ---- Writing
 
@@ -38,21 +40,27 @@ pub(crate) fn put_words(out: &mut [u8], at: usize, words: &[u16]) -> usize
     o
 }
 
-// The number of an external event or of an instance.
-pub(crate) fn put_number(out: &mut [u8], at: usize, n: Number) -> usize
-    requires { ⌜ at + numberSize ≤ length (now out) ⌝ }
-    ensures { λ r. ⌜ Wrote numberSize (now (out .entry)) (now (out .exit)) at r (numberBytes n) ⌝ }
+// A number of 32 bits.
+fn put_long(out: &mut [u8], at: usize, n: u32) -> usize
+    requires { ⌜ at + (wordSize + wordSize) ≤ length (now out) ⌝ }
+    ensures { λ r. ⌜ Wrote (wordSize + wordSize) (now (out .entry)) (now (out .exit)) at r (wordsBytes (longWords n)) ⌝ }
 {
-    put_word(out, at, n)
+    let o = put_word(out, at, (n % HIGH) as u16);
+    put_word(out, o, (n / HIGH) as u16)
+}
+
+// The number of an external event or of an instance, in a form: at most as many bytes as in the newest.
+pub(crate) fn put_number(out: &mut [u8], at: usize, form: Form, n: Number) -> usize
+    requires { ⌜ at + numberSize newest ≤ length (now out) ⌝ }
+    ensures { λ r. ⌜ Wrote (numberSize newest) (now (out .entry)) (now (out .exit)) at r (numberBytes form n) ⌝ }
+{
+    match form {
+        Form::Narrow => put_word(out, at, (n % HIGH) as u16),
+        Form::Wide => put_long(out, at, n),
+    }
 }
 
 // ---- Reading
-
-pub(crate) fn number_at(bytes: &[u8], at: usize) -> Number
-    ensures { λ r. ⌜ r ≡ numberAt (now (bytes .entry)) at ⌝ }
-{
-    u16_at(bytes, at)
-}
 
 // A number of 32 bits.
 pub(crate) fn long_at(bytes: &[u8], at: usize) -> u32
@@ -61,7 +69,17 @@ pub(crate) fn long_at(bytes: &[u8], at: usize) -> u32
 {
     let low = u16_at(bytes, at) as u32;
     let high = u16_at(bytes, at + WORD_BYTES) as u32;
-    low + 65536 * high
+    low + HIGH * high
+}
+
+pub(crate) fn number_at(bytes: &[u8], at: usize, form: Form) -> Number
+    requires { ⌜ at ≤ farthest ⌝ }
+    ensures { λ r. ⌜ r ≡ numberAt form (now (bytes .entry)) at ⌝ }
+{
+    match form {
+        Form::Narrow => u16_at(bytes, at) as u32,
+        Form::Wide => long_at(bytes, at),
+    }
 }
 
 // The smaller of two numbers.

@@ -34,11 +34,11 @@ use Rattle.model.specs.Lines.{letterOf, fieldsOf}
 use Rattle.printing.specs.Decimal.{decimal}
 use Rattle.printing.specs.LineText.{literalText, fieldText, changeText, lineText}
 use Rattle.printing.specs.Cases.{bytes}
-use Rattle.reading.specs.Call.{number, headOf, letter, callOf}
+use Rattle.reading.specs.Call.{numeral, headOf, letter, callOf}
 use Rattle.agent.specs.Feed.{respondBy}
 use Rattle.journal.specs.Output.{answersBy, replyTo, outputOf, fileRefusal, printedFor}
 use Rattle.journal.specs.Cases.{seen, wanted, table}
 
 pub small-cases : map seen table ≡ map wanted table
-unfolding ones any all distinct position isGround same opposite value instantiate bind areEntries isEnv matchTerm matchLiteral holds areBeliefs plus minus fits replay Bytes.u16At Bytes.items Bytes.rows Bytes.rowsEnd Layout.situationAt Layout.situationEnd Layout.actionsAt Layout.actionsEnd Layout.statesAt Layout.statesEnd Layout.maintenanceOff Layout.successOff Layout.failureOff Layout.statesOff Layout.planEnd Layout.planAt Layout.planCount Layout.beliefCount Layout.plansOff Layout.beliefsOf Layout.libraryOf contentsFit packedFrom isPacked situationOk actionsOk branchOk stateOk statesFrom entriesIn entries isTree statesOk planOk beliefsOk planFitsAt plansFit Refusal.refusalOf journalLibrary has insert sizeOf overBeliefs solve solutions firstOf ask rankOf isBefore consider bestOf triggered planSolutions planStart applicableFrom choose first changeAt planOf branchesOf branchOf pastBranch sameOrigin jobsOn live isPending isReady takesEffect clearing effective effects isReportable isOverfull reportRefusal reportChanges takeIn reportBy reported make close takeUp isPossible tryChange tryAction tryDivide answerTo isBarred pursue attempt tried closeEvent markEvent popped endTop succeed fail moveBy nextMove turnBy turn outcomeBy told nextEvent nextStack choiceFor cycleBy cycled isEventSound areEvents isStatus isSound isInstance areInstances isStack isServed isGoalFor hasGoal hasPoster areServed isWellFormed act callBy call letterOf fieldsOf decimal literalText fieldText changeText lineText bytes number headOf letter callOf respondBy replyTo answersBy outputOf printedFor seen wanted fileRefusal
+unfolding ones any all distinct position isGround same opposite value instantiate bind areEntries isEnv matchTerm matchLiteral holds areBeliefs plus minus fits replay Bytes.u16At Bytes.items Bytes.rows Bytes.rowsEnd Layout.situationAt Layout.situationEnd Layout.actionsAt Layout.actionsEnd Layout.statesAt Layout.statesEnd Layout.maintenanceOff Layout.successOff Layout.failureOff Layout.statesOff Layout.planEnd Layout.planAt Layout.planCount Layout.beliefCount Layout.plansOff Layout.beliefsOf Layout.libraryOf contentsFit packedFrom isPacked situationOk actionsOk branchOk stateOk statesFrom entriesIn entries isTree statesOk planOk beliefsOk planFitsAt plansFit Refusal.refusalOf journalLibrary has insert sizeOf overBeliefs solve solutions firstOf ask rankOf isBefore consider bestOf triggered planSolutions planStart applicableFrom choose first changeAt planOf branchesOf branchOf pastBranch sameOrigin jobsOn live isPending isReady takesEffect clearing effective effects isReportable isOverfull reportRefusal reportChanges takeIn reportBy reported make close takeUp isPossible tryChange tryAction tryDivide answerTo isBarred pursue attempt tried closeEvent markEvent popped endTop succeed fail moveBy nextMove turnBy turn outcomeBy told nextEvent nextStack choiceFor cycleBy cycled isEventSound areEvents isStatus isSound isInstance areInstances isStack isServed isGoalFor hasGoal hasPoster areServed isWellFormed act callBy call letterOf fieldsOf decimal literalText fieldText changeText lineText bytes numeral headOf letter callOf respondBy replyTo answersBy outputOf printedFor seen wanted fileRefusal
 small-cases = refl

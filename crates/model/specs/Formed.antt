@@ -103,7 +103,7 @@ pub record Formed (library : Library) (beliefs : List Literal) (queue : List Eve
   -- "stacks in turn order, at most 8", each as above
   pub few : length stacks ≤ mostStacks
   pub stacked : Every isStack stacks
-  -- "0..65,535 each"
+  -- "0..65,535 each"; request 5: 0..4,294,967,295
   pub taken-small : taken ≤ mostNumber
   pub made-small : made ≤ mostNumber
 

@@ -245,7 +245,7 @@ effects =
 
 -- one event pending, all ids used
 abbrev spent : AgentState
-spent = record { beliefs = []; queue = newEvent 1 2 (lit 1 5) ∷ []; stacks = []; taken = 1; made = 65535 }
+spent = record { beliefs = []; queue = newEvent 1 2 (lit 1 5) ∷ []; stacks = []; taken = 1; made = 4294967295 }
 
 abbrev applies : Scenario
 applies =
@@ -399,14 +399,14 @@ refusalOf row = reportRefusal (row .state) (row .kind) (row .literal)
 -- 5, 9, 7, 6 in this order; 6 needs kind 0, an absent literal and 64 beliefs
 abbrev pub reports : List ReportRow
 reports =
-    reporting (stateOf 65535 32 64) 3 (lit 1 5) 5
-    ∷ reporting (stateOf 65535 32 64) 0 (lit 1 V0) 5
-    ∷ reporting (stateOf 65535 32 64) 0 (lit 1 5) 9
-    ∷ reporting (stateOf 65534 32 64) 0 (lit 1 5) 7
-    ∷ reporting (stateOf 65534 31 64) 0 (lit 1 5) 6
-    ∷ reporting (stateOf 65534 31 63) 0 (lit 1 5) 0
-    ∷ reporting (stateOf 65534 31 64) 0 (lit 7 64) 0
-    ∷ reporting (stateOf 65534 31 64) 0 (neg 7 64) 0
-    ∷ reporting (stateOf 65534 31 64) 1 (lit 1 5) 0
-    ∷ reporting (stateOf 65534 31 64) 2 (lit 1 5) 0
+    reporting (stateOf 4294967295 32 64) 3 (lit 1 5) 5
+    ∷ reporting (stateOf 4294967295 32 64) 0 (lit 1 V0) 5
+    ∷ reporting (stateOf 4294967295 32 64) 0 (lit 1 5) 9
+    ∷ reporting (stateOf 4294967294 32 64) 0 (lit 1 5) 7
+    ∷ reporting (stateOf 4294967294 31 64) 0 (lit 1 5) 6
+    ∷ reporting (stateOf 4294967294 31 63) 0 (lit 1 5) 0
+    ∷ reporting (stateOf 4294967294 31 64) 0 (lit 7 64) 0
+    ∷ reporting (stateOf 4294967294 31 64) 0 (neg 7 64) 0
+    ∷ reporting (stateOf 4294967294 31 64) 1 (lit 1 5) 0
+    ∷ reporting (stateOf 4294967294 31 64) 2 (lit 1 5) 0
     ∷ []

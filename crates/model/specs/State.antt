@@ -20,7 +20,7 @@ use Rattle.model.specs.declared.Answered.{Answered}
 
 -- the largest number of an external event or of an instance
 abbrev pub mostNumber : ℕ
-mostNumber = 65535
+mostNumber = 4294967295
 
 -- the most stacks
 abbrev pub mostStacks : ℕ

@@ -4,10 +4,10 @@ use literal::Env;
 use literal::Literal;
 
 // The number of an external event or of an instance, from 1 on.
-pub type Number = u16;
+pub type Number = u32;
 
 // The largest of them.
-pub const MOST_NUMBER: Number = 65535;
+pub const MOST_NUMBER: Number = 4294967295;
 
 // At most this many external events are queued.
 pub const MOST_EXTERNAL: usize = 32;

@@ -52,7 +52,8 @@ journal =
 abbrev pub others : List Row
 others =
     row (Dropped 1 1) [] "N 1 1\n"
-    ∷ row (Dropped 65535 4294967295) [] "N 65535 4294967295\n"
+    ∷ row (Dropped 4294967295 4294967295) [] "N 4294967295 4294967295\n"
+    ∷ row (MadeExternal 65536 31 4000000000) [] "M 65536 31 e 4000000000\n"
     ∷ row (Unmet 10 15 3 32) [] "U 10 15 3 32\n"
     ∷ row (Unmet 100 0 0 100000) [] "U 100 0 0 100000\n"
     ∷ row (MadeGoal 999 31 1000) [] "M 999 31 g 1000\n"
@@ -69,9 +70,9 @@ longest = lit 65535 65535 65535 65535
 
 abbrev pub longestRow : Row
 longestRow =
-    row (Done 65535 65535 65535 longest)
+    row (Done 4294967295 65535 65535 longest)
     (adds longest ∷ removes longest ∷ adds longest ∷ removes longest ∷ adds longest ∷ removes longest ∷ adds longest ∷ removes longest ∷ [])
-    (Text._++_ "D 65535 65535 65535 -32767 65535 65535 65535 a -32767 65535 65535 65535 r -32767 65535 65535 65535"
+    (Text._++_ "D 4294967295 65535 65535 -32767 65535 65535 65535 a -32767 65535 65535 65535 r -32767 65535 65535 65535"
     (Text._++_ " a -32767 65535 65535 65535 r -32767 65535 65535 65535 a -32767 65535 65535 65535 r -32767 65535 65535 65535"
     " a -32767 65535 65535 65535 r -32767 65535 65535 65535\n"))
 

@@ -110,9 +110,9 @@ isTry (Refused n) = false
 
 -- ---- Limits
 
--- the longest letter with its fields: D with three numbers and a literal, every number of five digits
+-- the longest letter with its fields: D with an id of ten digits, two numbers and a literal, every number of five digits
 abbrev pub mostFields : ℕ
-mostFields = 44
+mostFields = 49
 
 -- the longest change
 abbrev pub mostChange : ℕ

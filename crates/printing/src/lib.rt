@@ -20,7 +20,7 @@ use model::MOST_CHANGES;
 use model::Number;
 
 // How many bytes the longest letter with its fields has: D with three numbers and a literal.
-const MOST_FIELDS: usize = 44;
+const MOST_FIELDS: usize = 49;
 
 // How many bytes the longest change has.
 const MOST_CHANGE: usize = 27;
@@ -117,8 +117,8 @@ fn put_wide(out: &mut [u8], at: usize, n: u32) -> usize
     put_four(out, b, (n % 10000) as u16)
 }
 
-// A space and a count.
-fn put_count(out: &mut [u8], at: usize, n: u32) -> usize
+// A space and a number of up to ten digits.
+fn put_field(out: &mut [u8], at: usize, n: u32) -> usize
     requires { ⌜ at + 11 ≤ length (now out) ⌝ }
     ensures { λ r. ⌜ Wrote 11 (now (out .entry)) (now (out .exit)) at r (numberText n) ⌝ }
 {
@@ -184,11 +184,11 @@ fn put_changes(out: &mut [u8], at: usize, changes: [Change; MOST_CHANGES], n: us
 // ---- The letter and its fields
 
 fn put_one(out: &mut [u8], at: usize, letter: u8, n: Number) -> usize
-    requires { ⌜ at + 7 ≤ length (now out) ⌝ }
-    ensures { λ r. ⌜ Wrote 7 (now (out .entry)) (now (out .exit)) at r (letter ∷ each fieldText (number n ∷ [])) ⌝ }
+    requires { ⌜ at + 12 ≤ length (now out) ⌝ }
+    ensures { λ r. ⌜ Wrote 12 (now (out .entry)) (now (out .exit)) at r (letter ∷ each fieldText (number n ∷ [])) ⌝ }
 {
     let a = put(out, at, letter);
-    put_number(out, a, b' ', n)
+    put_field(out, a, n)
 }
 
 // The instance, its state and its branch.
@@ -200,28 +200,28 @@ fn put_three(
     state: u16,
     branch: u16,
 ) -> usize
-    requires { ⌜ at + 19 ≤ length (now out) ⌝ }
-    ensures { λ r. ⌜ Wrote 19 (now (out .entry)) (now (out .exit)) at r
+    requires { ⌜ at + 24 ≤ length (now out) ⌝ }
+    ensures { λ r. ⌜ Wrote 24 (now (out .entry)) (now (out .exit)) at r
         (letter ∷ each fieldText (number instance ∷ number state ∷ number branch ∷ [])) ⌝ }
 {
     let a = put(out, at, letter);
-    let b = put_number(out, a, b' ', instance);
+    let b = put_field(out, a, instance);
     let c = put_number(out, b, b' ', state);
     put_number(out, c, b' ', branch)
 }
 
 // The instance made, its plan, and e or g with the number of what it was made for.
 fn put_made(out: &mut [u8], at: usize, instance: Number, plan: u16, word: u8, n: Number) -> usize
-    requires { ⌜ at + 21 ≤ length (now out) ⌝ }
-    ensures { λ r. ⌜ Wrote 21 (now (out .entry)) (now (out .exit)) at r
+    requires { ⌜ at + 31 ≤ length (now out) ⌝ }
+    ensures { λ r. ⌜ Wrote 31 (now (out .entry)) (now (out .exit)) at r
         (letterByte M ∷ (numberText instance ++ (numberText plan ++ (space ∷ word ∷ numberText n)))) ⌝ }
 {
     let a = put(out, at, b'M');
-    let b = put_number(out, a, b' ', instance);
+    let b = put_field(out, a, instance);
     let c = put_number(out, b, b' ', plan);
     let d = put(out, c, b' ');
     let e = put(out, d, word);
-    put_number(out, e, b' ', n)
+    put_field(out, e, n)
 }
 
 // S, B, D and G: what came of a branch.
@@ -274,7 +274,7 @@ fn put_answer(out: &mut [u8], at: usize, answer: Answer) -> usize
         Answer::Idle => put(out, at, b'I'),
         Answer::Dropped { external, failures } => {
             let a = put_one(out, at, b'N', external);
-            put_count(out, a, failures)
+            put_field(out, a, failures)
         }
         Answer::Unmet {
             instance,
@@ -283,7 +283,7 @@ fn put_answer(out: &mut [u8], at: usize, answer: Answer) -> usize
             failures,
         } => {
             let a = put_three(out, at, b'U', instance, state, branch);
-            put_count(out, a, failures)
+            put_field(out, a, failures)
         }
         Answer::MadeExternal {
             instance,
@@ -297,7 +297,7 @@ fn put_answer(out: &mut [u8], at: usize, answer: Answer) -> usize
         } => put_made(out, at, instance, plan, b'g', poster),
         Answer::Succeeded(instance) => put_one(out, at, b'E', instance),
         Answer::Failed(instance) => put_one(out, at, b'F', instance),
-        Answer::Refused(n) => put_one(out, at, b'X', n),
+        Answer::Refused(n) => put_one(out, at, b'X', n as u32),
         _ => put_try(out, at, answer),
     }
 }
@@ -345,6 +345,6 @@ pub fn print_pair(out: &mut [u8], at: usize, first: u32, second: u32) -> usize
         return at;
     }
     let a = put_wide(out, at, first);
-    let b = put_count(out, a, second);
+    let b = put_field(out, a, second);
     put(out, b, b'\n')
 }

@@ -11,8 +11,8 @@ use borrow.Author.Tests.{leb-true}
 use Rattle.lists.proofs.BoolLaws.{and-parts}
 use Rattle.lists.proofs.OptionLaws.{none-some}
 use Rattle.literal.specs.Match.{andThen}
-use Rattle.model.specs.State.{Call, report, cycle, outcome}
-use Rattle.reading.specs.Call.{onFirst, fields, digitsFrom, upTo, number, largestNumber, largestPredicate, signed, headOf, letter, workedBy, field, end, reportOf, outcomeOf, byLetter, callOf, mostLine}
+use Rattle.model.specs.State.{mostNumber, Call, report, cycle, outcome}
+use Rattle.reading.specs.Call.{onFirst, fields, digitsFrom, upTo, numeral, mostDigits, mostIdDigits, number, idOf, largestNumber, largestPredicate, signed, headOf, letter, workedBy, field, end, reportOf, outcomeOf, byLetter, callOf, mostLine}
 
 -- ---- The length of a line, by its fields: each with the byte after it
 
@@ -37,11 +37,12 @@ weight-fields (b ∷ line) = by (eqb b 32) (weight-fields line) where
 abbrev Takes : ℕ → (List ℕ → Option ℕ) → Type 0
 Takes n read = (text : List ℕ) (value : ℕ) → read text ≡ some value → length text ≤ n
 
-number-takes : (most : ℕ) → Takes 5 (number most)
-unfolding number
-number-takes most text value e = by (leb 1 (length text) && leb (length text) 5) refl e where
-  by : (t : Bool) → (leb 1 (length text) && leb (length text) 5) ≡ t → cond t (andThen (digitsFrom 0 text) (upTo most)) none ≡ some value → length text ≤ 5
-  by true h e = leb-true (length text) 5 (and-parts (leb 1 (length text)) (leb (length text) 5) h .1)
+number-takes : (width most : ℕ) → Takes width (numeral width most)
+unfolding numeral
+number-takes width most text value e = by (leb 1 (length text) && leb (length text) width) refl e where
+  by : (t : Bool) → (leb 1 (length text) && leb (length text) width) ≡ t → cond t (andThen (digitsFrom 0 text) (upTo most)) none ≡ some value
+      → length text ≤ width
+  by true h e = leb-true (length text) width (and-parts (leb 1 (length text)) (leb (length text) width) h .1)
   by false h e = none-some e
 
 head-takes : Takes 6 headOf
@@ -50,7 +51,7 @@ head-takes [] value e = none-some e
 head-takes (sign ∷ text) value e = by (number largestPredicate text) refl e where
   by : (o : Option ℕ) → number largestPredicate text ≡ o → andThen o (signed sign) ≡ some value → suc (length text) ≤ 6
   by none h e = none-some e
-  by (some predicate) h e = omega (arith, number-takes largestPredicate text predicate h)
+  by (some predicate) h e = omega (arith, number-takes mostDigits largestPredicate text predicate h)
 
 letter-takes : Takes 1 letter
 unfolding letter
@@ -77,7 +78,7 @@ end-reaches call [] h = absurd (omega arith)
 end-reaches call (text ∷ texts) h = refl
 
 numbers : Takes 5 (number largestNumber)
-numbers = number-takes largestNumber
+numbers = number-takes mostDigits largestNumber
 
 report-reaches : Reaches 31 reportOf
 report-reaches =
@@ -94,8 +95,8 @@ told-reaches id b texts h = by (workedBy b) where
   by none = refl
   by (some worked) = end-reaches (outcome id worked) texts h
 
-outcome-reaches : Reaches 8 outcomeOf
-outcome-reaches = field-reaches 5 2 (number largestNumber) _ numbers λ id. field-reaches 1 0 letter _ letter-takes (told-reaches id)
+outcome-reaches : Reaches 13 outcomeOf
+outcome-reaches = field-reaches mostIdDigits 2 idOf _ (number-takes mostIdDigits mostNumber) λ id. field-reaches 1 0 letter _ letter-takes (told-reaches id)
 
 letters-reach : (b : ℕ) → Reaches 31 (byLetter b)
 letters-reach b texts h = by (eqb b 80) (eqb b 67) (eqb b 79) where

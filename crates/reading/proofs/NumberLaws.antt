@@ -13,7 +13,7 @@ use Rattle.lists.proofs.BoolLaws.{by-cases, and-parts}
 use Rattle.lists.proofs.OptionLaws.{some-equal, none-some}
 use Rattle.literal.specs.Match.{andThen}
 use Rattle.model.specs.State.{Call}
-use Rattle.reading.specs.Call.{onFirst, fields, isDigit, digitsFrom, upTo, number, field}
+use Rattle.reading.specs.Call.{onFirst, fields, isDigit, digitsFrom, upTo, numeral, mostIdDigits, field}
 
 -- ---- Fields
 
@@ -64,46 +64,47 @@ digits-append n value (b ∷ digits) rest e = by (isDigit b) e (λ h. digits-app
 
 -- ---- Numbers
 
-pub number-of : (most value : ℕ) (text : List ℕ) → 1 ≤ length text → length text ≤ 5 → digitsFrom 0 text ≡ some value → number most text ≡ upTo most value
-unfolding number
-number-of most value text one five e = rw (le-leb 1 _ one, le-leb _ 5 five, e)
+pub number-of : (width most value : ℕ) (text : List ℕ) → 1 ≤ length text → length text ≤ width → digitsFrom 0 text ≡ some value
+    → numeral width most text ≡ upTo most value
+unfolding numeral
+number-of width most value text one few e = rw (le-leb 1 _ one, le-leb _ width few, e)
 
-pub number-empty : (most : ℕ) → number most [] ≡ none
-unfolding number
-number-empty most = refl
+pub number-empty : (width most : ℕ) → numeral width most [] ≡ none
+unfolding numeral
+number-empty width most = refl
 
-pub number-long : (most : ℕ) (text : List ℕ) → 5 < length text → number most text ≡ none
-unfolding number
-number-long most text h = rw (le-leb 1 (length text) (omega arith), lt-leb (length text) 5 h)
+pub number-long : (width most : ℕ) (text : List ℕ) → width < length text → numeral width most text ≡ none
+unfolding numeral
+number-long width most text h = rw (le-leb 1 (length text) (omega arith), lt-leb (length text) width h)
 
-pub number-wrong : (most : ℕ) (text : List ℕ) → digitsFrom 0 text ≡ none → number most text ≡ none
-unfolding number
-number-wrong most text e = by (leb 1 (length text) && leb (length text) 5) where
+pub number-wrong : (width most : ℕ) (text : List ℕ) → digitsFrom 0 text ≡ none → numeral width most text ≡ none
+unfolding numeral
+number-wrong width most text e = by (leb 1 (length text) && leb (length text) width) where
   by : (t : Bool) → cond t (andThen (digitsFrom 0 text) (upTo most)) none ≡ none
   by true = rw e
   by false = refl
 
 -- ---- A number at the start of a line: its digits, and what follows them
-module _ (most value : ℕ) (digits : List ℕ) (e : digitsFrom 0 digits ≡ some value) (k : ℕ → List (List ℕ) → Option Call) where
+module _ (width most value : ℕ) (digits : List ℕ) (e : digitsFrom 0 digits ≡ some value) (k : ℕ → List (List ℕ) → Option Call) where
   -- the line's end
-  pub read-last : field (number most) (fields (digits ++ [])) k ≡ andThen (number most digits) (λ n. k n [])
+  pub read-last : field (numeral width most) (fields (digits ++ [])) k ≡ andThen (numeral width most digits) (λ n. k n [])
   read-last = rw (fields-digits 0 value digits [] e, append-nil)
 
   -- a space
-  pub read-more : (rest : List ℕ) → field (number most) (fields (digits ++ (32 ∷ rest))) k ≡ andThen (number most digits) (λ n. k n (fields rest))
+  pub read-more : (rest : List ℕ) → field (numeral width most) (fields (digits ++ (32 ∷ rest))) k ≡ andThen (numeral width most digits) (λ n. k n (fields rest))
   read-more rest = rw (fields-digits 0 value digits (32 ∷ rest) e, append-nil)
 
-  -- another byte: a sixth digit, or none
-  pub wrong : (b : ℕ) (rest : List ℕ) → (length digits < 5 → isDigit b ≡ false) → number most (digits ++ (b ∷ rest)) ≡ none
+  -- another byte: a digit too many, or none
+  pub wrong : (b : ℕ) (rest : List ℕ) → (length digits < width → isDigit b ≡ false) → numeral width most (digits ++ (b ∷ rest)) ≡ none
   wrong b rest stops =
-      by-cases (ltb (length digits) 5)
-      (λ h. number-wrong most (digits ++ (b ∷ rest)) (digits-append 0 value digits (b ∷ rest) e ∙ rw (stops (ltb-true _ 5 h))))
-      (λ h. number-long most (digits ++ (b ∷ rest)) (rw length-append (omega (arith, ltb-false (length digits) 5 h))))
+      by-cases (ltb (length digits) width)
+      (λ h. number-wrong width most (digits ++ (b ∷ rest)) (digits-append 0 value digits (b ∷ rest) e ∙ rw (stops (ltb-true _ width h))))
+      (λ h. number-long width most (digits ++ (b ∷ rest)) (rw length-append (omega (arith, ltb-false (length digits) width h))))
 
-  pub read-wrong : (b : ℕ) (rest : List ℕ) → eqb b 32 ≡ false → (length digits < 5 → isDigit b ≡ false)
-      → field (number most) (fields (digits ++ (b ∷ rest))) k ≡ none
+  pub read-wrong : (b : ℕ) (rest : List ℕ) → eqb b 32 ≡ false → (length digits < width → isDigit b ≡ false)
+      → field (numeral width most) (fields (digits ++ (b ∷ rest))) k ≡ none
   read-wrong b rest other stops = rw (fields-digits 0 value digits (b ∷ rest) e, other) (by (fields rest)) where
-    by : (texts : List (List ℕ)) → field (number most) (glue digits (onFirst b texts)) k ≡ none
+    by : (texts : List (List ℕ)) → field (numeral width most) (glue digits (onFirst b texts)) k ≡ none
     by [] = rw (wrong b [] stops)
     by (text ∷ texts) = rw (wrong b text stops)
 
@@ -119,9 +120,9 @@ below-digits b h = rw (lt-leb 48 b h)
 pub above-digits : (b : ℕ) → 57 < b → isDigit b ≡ false
 above-digits b h = rw (le-leb 48 b (omega arith), lt-leb b 57 h)
 
--- four digits say less than 10,000
-pub power-small : (n : ℕ) → n < 5 → 10 ^ n ≤ 10000
-power-small n h = pow-le-pow-right (lit< tt) {i = n} {j = 4} (omega arith)
+-- fewer digits than an id may have say less than 1,000,000,000
+pub power-small : (n : ℕ) → n < mostIdDigits → 10 ^ n ≤ 1000000000
+power-small n h = pow-le-pow-right (lit< tt) {i = n} {j = 9} (omega arith)
 
 pub power-more : (n : ℕ) → 10 ^ suc n ≡ 10 ^ n * 10
 power-more n = rw pow-suc

@@ -15,7 +15,7 @@ use Rattle.model.specs.State.{Call}
 use Rattle.reading.specs.declared.Digits.{Digits}
 use Rattle.reading.specs.declared.Numeral.{Numeral}
 use Rattle.reading.specs.declared.Numeral.the-variants as num
-use Rattle.reading.specs.Call.{onFirst, fields, upTo, number, largestPredicate, signed, headOf, field}
+use Rattle.reading.specs.Call.{onFirst, fields, upTo, numeral, number, mostDigits, largestPredicate, signed, headOf, field}
 use Rattle.reading.specs.Places.{part, left, DigitsAt, after, Reads}
 use Rattle.reading.proofs.NumberLaws.{number-of, number-empty, read-last, read-more, read-wrong}
 
@@ -48,7 +48,7 @@ pub left-past : (s : List ℕ) (at : ℕ) → length s < at → left s at ≡ []
 left-past s at h = rw (lt-leb at (length s) h)
 
 -- ---- Digits at a place
-module _ (s : List ℕ) (at : ℕ) (r : Digits) (d : DigitsAt s at r) where
+module _ (width : ℕ) (s : List ℕ) (at : ℕ) (r : Digits) (d : DigitsAt width s at r) where
   abbrev digits : List ℕ
   digits = part s at (r .stop)
 
@@ -66,35 +66,35 @@ module _ (s : List ℕ) (at : ℕ) (r : Digits) (d : DigitsAt s at r) where
 
   -- ---- The number that they say, and what is read after it
   module _ (most : ℕ) (k : ℕ → List (List ℕ) → Option Call) where
-    said : at < r .stop → number most digits ≡ upTo most (r .value)
+    said : at < r .stop → numeral width most digits ≡ upTo most (r .value)
     said g =
         let long = size (inside g) in
-        number-of most (r .value) digits (omega arith) (omega (arith, d .few)) (d .value)
+        number-of width most (r .value) digits (omega arith) (omega (arith, d .few)) (d .value)
 
     whole : at ≤ length s → left s at ≡ fields (digits ++ drop (r .stop) s)
     whole h = left-in s at h ∙ ap fields (part-rest s at (r .stop) (d .from))
 
     -- at the line's end
-    last : at ≤ length s → length s ≤ r .stop → field (number most) (left s at) k ≡ andThen (number most digits) (λ n. k n [])
-    last h g = rw (whole h, drop-of-length-le s g) (read-last most (r .value) digits (d .value) k)
+    last : at ≤ length s → length s ≤ r .stop → field (numeral width most) (left s at) k ≡ andThen (numeral width most digits) (λ n. k n [])
+    last h g = rw (whole h, drop-of-length-le s g) (read-last width most (r .value) digits (d .value) k)
 
     -- before a space
     more : r .stop < length s → getD s (r .stop) 0 ≡ 32
-        → field (number most) (left s at) k ≡ andThen (number most digits) (λ n. k n (fields (drop (r .stop + 1) s)))
+        → field (numeral width most) (left s at) k ≡ andThen (numeral width most digits) (λ n. k n (fields (drop (r .stop + 1) s)))
     more g e =
         rw (whole (omega (arith, d .from)), drop-cons s (r .stop) 0 g, e, add-one)
-        (read-more most (r .value) digits (d .value) k (drop (suc (r .stop)) s))
+        (read-more width most (r .value) digits (d .value) k (drop (suc (r .stop)) s))
 
     -- before another byte
-    pub number-other : r .stop < length s → (getD s (r .stop) 0 ≡ 32 → ⊥) → field (number most) (left s at) k ≡ none
+    pub number-other : r .stop < length s → (getD s (r .stop) 0 ≡ 32 → ⊥) → field (numeral width most) (left s at) k ≡ none
     number-other g e =
         let h : at ≤ length s = omega (arith, d .from) in
         rw (whole h, drop-cons s (r .stop) 0 g)
-        (read-wrong most (r .value) digits (d .value) k (getD s (r .stop) 0) (drop (suc (r .stop)) s) (ne-eqb _ 32 e)
+        (read-wrong width most (r .value) digits (d .value) k (getD s (r .stop) 0) (drop (suc (r .stop)) s) (ne-eqb _ 32 e)
         (λ few. d .stops g (omega (arith, size h))))
 
     -- digits that say no number
-    bad : at ≤ length s → number most digits ≡ none → field (number most) (left s at) k ≡ none
+    bad : at ≤ length s → numeral width most digits ≡ none → field (numeral width most) (left s at) k ≡ none
     bad h e =
         by-cases (ltb (r .stop) (length s))
         (λ g. by-cases (eqb (getD s (r .stop) 0) 32)
@@ -103,24 +103,24 @@ module _ (s : List ℕ) (at : ℕ) (r : Digits) (d : DigitsAt s at r) where
         (λ g. last h (ltb-false _ _ g) ∙ rw e)
 
     -- no digit
-    pub number-missing : r .stop ≤ at → field (number most) (left s at) k ≡ none
+    pub number-missing : r .stop ≤ at → field (numeral width most) (left s at) k ≡ none
     number-missing g =
         let e : r .stop ≡ at = omega (arith, d .from) in
         by-cases (leb at (length s))
-        (λ h. bad (leb-true _ _ h) (rw (e, part-none s at) (number-empty most)))
+        (λ h. bad (leb-true _ _ h) (rw (e, part-none s at) (number-empty width most)))
         (λ h. rw (left-past s at (leb-false _ _ h)))
 
     -- more than so much
-    pub number-over : at < r .stop → most < r .value → field (number most) (left s at) k ≡ none
+    pub number-over : at < r .stop → most < r .value → field (numeral width most) (left s at) k ≡ none
     number-over g over = bad (inside g) (said g ∙ rw (lt-leb _ _ over))
 
     module _ (g : at < r .stop) (fits : r .value ≤ most) where
       -- a number at the line's end
-      pub number-last : length s ≤ r .stop → field (number most) (left s at) k ≡ k (r .value) (left s (r .stop + 1))
+      pub number-last : length s ≤ r .stop → field (numeral width most) (left s at) k ≡ k (r .value) (left s (r .stop + 1))
       number-last h = last (inside g) h ∙ rw (said g, le-leb _ _ fits, left-past s (r .stop + 1) (omega arith))
 
       -- a number before a space
-      pub number-more : r .stop < length s → getD s (r .stop) 0 ≡ 32 → field (number most) (left s at) k ≡ k (r .value) (left s (r .stop + 1))
+      pub number-more : r .stop < length s → getD s (r .stop) 0 ≡ 32 → field (numeral width most) (left s at) k ≡ k (r .value) (left s (r .stop + 1))
       number-more h e = more h e ∙ rw (said g, le-leb _ _ fits, left-in s (r .stop + 1) (omega arith))
 
 -- ---- What a reader found
@@ -152,7 +152,7 @@ afterSign sign k predicate texts = andThen (signed sign predicate) (λ head. k h
 module _ (k : ℕ → List (List ℕ) → Option Call) where
   sign-first : (sign : ℕ) (texts : List (List ℕ)) → field headOf (onFirst sign texts) k ≡ field (number largestPredicate) texts (afterSign sign k)
   unfolding headOf
-  sign-first sign [] = rw (number-empty largestPredicate)
+  sign-first sign [] = rw (number-empty mostDigits largestPredicate)
   sign-first sign (text ∷ texts) = and-then-twice (number largestPredicate text) (signed sign) (λ head. k head texts)
 
   pub sign-line : (sign : ℕ) (line : List ℕ) → field headOf (fields (sign ∷ line)) k ≡ field (number largestPredicate) (fields line) (afterSign sign k)

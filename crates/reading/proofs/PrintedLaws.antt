@@ -12,11 +12,11 @@ use borrow.Author.Tests.{ltb-true, ltb-false, le-leb, leb-true}
 use Rattle.lists.proofs.BoolLaws.{by-cases, and-parts}
 use Rattle.literal.specs.declared.Literal.{Literal}
 use Rattle.literal.specs.Literal.{negative}
-use Rattle.model.specs.State.{Call, report, cycle, outcome}
+use Rattle.model.specs.State.{mostNumber, Call, report, cycle, outcome}
 use Rattle.printing.specs.Decimal.{decimal}
 use Rattle.printing.specs.LineText.{signByte, literalText}
 use Rattle.printing.proofs.DecimalLaws.{decimal-small, decimal-more}
-use Rattle.reading.specs.Call.{fields, digitsFrom, number, largestNumber, largestPredicate, headOf, field, termsOf, reportOf, outcomeOf, byLetter, callOf}
+use Rattle.reading.specs.Call.{fields, digitsFrom, numeral, largestNumber, largestPredicate, headOf, field, termsOf, reportOf, outcomeOf, byLetter, callOf}
 use Rattle.reading.specs.Printed.{callText, isStored}
 use Rattle.reading.proofs.NumberLaws.{number-of, digits-more, read-last, read-more}
 use Rattle.reading.proofs.PlaceLaws.{afterSign, sign-line}
@@ -45,20 +45,20 @@ length-decimal (suc k) n h =
     let fewer = length-decimal k (n / 10) (omega (arith, pow-suc 10 (suc k))) in
     rw (decimal-more n big, length-append) (omega arith, omega arith))
 
-number-decimal : (most n : ℕ) → n ≤ most → n ≤ largestNumber → number most (decimal n) ≡ some n
-number-decimal most n fits stored =
-    let few = length-decimal 4 n (omega arith) in
-    number-of most n (decimal n) (few .0) (few .1) (digits-decimal n) ∙ rw (le-leb n most fits)
+number-decimal : (fewer most n : ℕ) → n ≤ most → n < 10 ^ suc fewer → numeral (suc fewer) most (decimal n) ≡ some n
+number-decimal fewer most n fits short =
+    let few = length-decimal fewer n short in
+    number-of (suc fewer) most n (decimal n) (few .0) (few .1) (digits-decimal n) ∙ rw (le-leb n most fits)
 
 -- ---- A printed number at the start of a line
-module _ (most n : ℕ) (fits : n ≤ most) (stored : n ≤ largestNumber) (k : ℕ → List (List ℕ) → Option Call) where
-  printed-more : (rest : List ℕ) → field (number most) (fields (decimal n ++ (32 ∷ rest))) k ≡ k n (fields rest)
-  printed-more rest = read-more most n (decimal n) (digits-decimal n) k rest ∙ rw (number-decimal most n fits stored)
+module _ (fewer most n : ℕ) (fits : n ≤ most) (short : n < 10 ^ suc fewer) (k : ℕ → List (List ℕ) → Option Call) where
+  printed-more : (rest : List ℕ) → field (numeral (suc fewer) most) (fields (decimal n ++ (32 ∷ rest))) k ≡ k n (fields rest)
+  printed-more rest = read-more (suc fewer) most n (decimal n) (digits-decimal n) k rest ∙ rw (number-decimal fewer most n fits short)
 
-  printed-last : field (number most) (fields (decimal n)) k ≡ k n []
+  printed-last : field (numeral (suc fewer) most) (fields (decimal n)) k ≡ k n []
   printed-last =
-      ap (λ line. field (number most) (fields line) k) (sym (append-nil (decimal n)))
-      ∙ read-last most n (decimal n) (digits-decimal n) k ∙ rw (number-decimal most n fits stored)
+      ap (λ line. field (numeral (suc fewer) most) (fields line) k) (sym (append-nil (decimal n)))
+      ∙ read-last (suc fewer) most n (decimal n) (digits-decimal n) k ∙ rw (number-decimal fewer most n fits short)
 
 -- ---- A printed literal
 
@@ -73,21 +73,21 @@ module _ (head : ℕ) (stored : head ≤ largestNumber) (k : ℕ → List (List 
   printed-head : (rest : List ℕ) → field headOf (fields (signByte head ∷ (decimal (head % negative) ++ (32 ∷ rest)))) k ≡ k head (fields rest)
   printed-head rest =
       sign-line k (signByte head) (decimal (head % negative) ++ (32 ∷ rest))
-      ∙ printed-more largestPredicate (head % negative) (omega arith) (omega arith) (afterSign (signByte head) k) rest
+      ∙ printed-more 4 largestPredicate (head % negative) (omega arith) (omega arith) (afterSign (signByte head) k) rest
       ∙ signed-back (fields rest)
 
 module _ (kind : ℕ) (l : Literal) (first : l .first ≤ largestNumber) (second : l .second ≤ largestNumber) (third : l .third ≤ largestNumber) where
   printed-terms : termsOf kind (l .head) (fields (decimal (l .first) ++ (32 ∷ (decimal (l .second) ++ (32 ∷ decimal (l .third))))))
       ≡ some (report kind l)
   printed-terms =
-      printed-more largestNumber (l .first) first first _ (decimal (l .second) ++ (32 ∷ decimal (l .third)))
-      ∙ printed-more largestNumber (l .second) second second _ (decimal (l .third))
-      ∙ printed-last largestNumber (l .third) third third _
+      printed-more 4 largestNumber (l .first) first (omega arith) _ (decimal (l .second) ++ (32 ∷ decimal (l .third)))
+      ∙ printed-more 4 largestNumber (l .second) second (omega arith) _ (decimal (l .third))
+      ∙ printed-last 4 largestNumber (l .third) third (omega arith) _
 
   printed-report : kind ≤ largestNumber → l .head ≤ largestNumber → reportOf (fields (decimal kind ++ literalText l)) ≡ some (report kind l)
   unfolding literalText
   printed-report kinds heads =
-      printed-more largestNumber kind kinds kinds _ _
+      printed-more 4 largestNumber kind kinds (omega arith) _ _
       ∙ printed-head (l .head) heads (termsOf kind) _
       ∙ printed-terms
 
@@ -100,9 +100,9 @@ worked-back id false = refl
 told-space : (id : ℕ) (texts : List (List ℕ)) → told id 32 texts ≡ none
 told-space id texts = refl
 
-printed-outcome : (id : ℕ) (worked : Bool) → id ≤ largestNumber → outcomeOf (fields (decimal id ++ (32 ∷ cond worked 49 48 ∷ []))) ≡ some (outcome id worked)
+printed-outcome : (id : ℕ) (worked : Bool) → id ≤ mostNumber → outcomeOf (fields (decimal id ++ (32 ∷ cond worked 49 48 ∷ []))) ≡ some (outcome id worked)
 printed-outcome id worked stored =
-    printed-more largestNumber id stored stored _ (cond worked 49 48 ∷ [])
+    printed-more 9 mostNumber id stored (omega arith) _ (cond worked 49 48 ∷ [])
     ∙ letter-only (told id) (told-space id) (cond worked 49 48)
     ∙ worked-back id worked
 
@@ -123,4 +123,4 @@ reads-back (report kind l) h =
 reads-back cycle h = letter-only byLetter letter-space 67
 reads-back (outcome id worked) h =
     letter-then byLetter letter-space 79 (decimal id ++ (32 ∷ cond worked 49 48 ∷ []))
-    ∙ printed-outcome id worked (leb-true id largestNumber h)
+    ∙ printed-outcome id worked (leb-true id mostNumber h)

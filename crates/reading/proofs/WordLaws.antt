@@ -10,12 +10,12 @@ use lib.Seq.{drop-cons}
 use borrow.Author.Tests.{le-leb, lt-leb, ltb-true, ltb-false}
 use Rattle.lists.proofs.BoolLaws.{by-cases}
 use Rattle.reading.specs.declared.Digits.{Digits}
-use Rattle.reading.specs.Call.{upTo, number}
+use Rattle.reading.specs.Call.{upTo, mostDigits, number}
 use Rattle.reading.specs.Places.{part, DigitsAt}
 use Rattle.reading.proofs.NumberLaws.{number-of, number-empty, wrong}
 use Rattle.reading.proofs.PlaceLaws.{part-rest, part-length}
 
-module _ (s : List ℕ) (r : Digits) (d : DigitsAt s 0 r) (most : ℕ) where
+module _ (s : List ℕ) (r : Digits) (d : DigitsAt mostDigits s 0 r) (most : ℕ) where
   abbrev digits : List ℕ
   digits = part s 0 (r .stop)
 
@@ -27,14 +27,14 @@ module _ (s : List ℕ) (r : Digits) (d : DigitsAt s 0 r) (most : ℕ) where
   word-cut h =
       let size = part-length s 0 (r .stop) (d .from) (omega arith) in
       ap (number most) (apart ∙ ap (λ (rest : List ℕ). digits ++ rest) (drop-cons s (r .stop) 0 h))
-      ∙ wrong most (r .value) digits (d .value) (λ n texts. none) (getD s (r .stop) 0) (drop (suc (r .stop)) s) (λ few. d .stops h (omega arith))
+      ∙ wrong mostDigits most (r .value) digits (d .value) (λ n texts. none) (getD s (r .stop) 0) (drop (suc (r .stop)) s) (λ few. d .stops h (omega arith))
 
   -- no digit
   pub word-none : r .stop ≡ 0 → number most s ≡ none
   word-none e = by-cases (ltb 0 (length s)) (λ h. word-cut (omega (arith, ltb-true 0 (length s) h))) (λ h. empty s (omega (arith, ltb-false 0 (length s) h)))
     where
       empty : (word : List ℕ) → length word ≤ 0 → number most word ≡ none
-      empty [] h = number-empty most
+      empty [] h = number-empty mostDigits most
       empty (b ∷ word) h = absurd (omega (arith, h))
 
   -- nothing but digits
@@ -42,7 +42,7 @@ module _ (s : List ℕ) (r : Digits) (d : DigitsAt s 0 r) (most : ℕ) where
   whole some-digit h =
       let size = part-length s 0 (r .stop) (d .from) (d .within (omega arith)) in
       ap (number most) (apart ∙ rw (drop-of-length-le s h, append-nil))
-      ∙ number-of most (r .value) digits (omega arith) (omega (arith, d .few)) (d .value)
+      ∙ number-of mostDigits most (r .value) digits (omega arith) (omega (arith, d .few)) (d .value)
 
   pub word-over : 0 < r .stop → length s ≤ r .stop → most < r .value → number most s ≡ none
   word-over some-digit h over = whole some-digit h ∙ rw (lt-leb (r .value) most over)

@@ -7,7 +7,7 @@ use lib.Dec.{leb, eqb}
 use lib.ListN.{length}
 use Rattle.literal.specs.Literal.{negative}
 use Rattle.literal.specs.Match.{andThen}
-use Rattle.model.specs.State.{Call, report, cycle, outcome}
+use Rattle.model.specs.State.{mostNumber, Call, report, cycle, outcome}
 
 -- ---- The fields of a line, which have one space between
 
@@ -34,11 +34,27 @@ digitsFrom n (b ∷ bytes) = cond (isDigit b) (digitsFrom (n * 10 + (b - 48)) by
 abbrev pub upTo : ℕ → ℕ → Option ℕ
 upTo most n = cond (leb n most) (some n) none
 
--- 1 to 5 digits that say at most so much
-unfoldable pub number : ℕ → List ℕ → Option ℕ
-number most text = cond (leb 1 (length text) && leb (length text) 5) (andThen (digitsFrom 0 text) (upTo most)) none
+-- 1 to so many digits that say at most so much
+unfoldable pub numeral : ℕ → ℕ → List ℕ → Option ℕ
+numeral digits most text = cond (leb 1 (length text) && leb (length text) digits) (andThen (digitsFrom 0 text) (upTo most)) none
 
--- the largest number, and the largest predicate
+-- a kind, a predicate or a term has at most so many digits
+abbrev pub mostDigits : ℕ
+mostDigits = 5
+
+-- and an id so many (document 02, request 5)
+abbrev pub mostIdDigits : ℕ
+mostIdDigits = 10
+
+-- 1 to 5 digits that say at most so much
+abbrev pub number : ℕ → List ℕ → Option ℕ
+number most = numeral mostDigits most
+
+-- an id: 1 to 10 digits, up to the largest number of an instance
+abbrev pub idOf : List ℕ → Option ℕ
+idOf = numeral mostIdDigits mostNumber
+
+-- the largest kind or term, and the largest predicate
 abbrev pub largestNumber : ℕ
 largestNumber = 65535
 
@@ -91,7 +107,7 @@ reportOf texts = field (number largestNumber) texts λ kind texts. field headOf 
 -- after O: id, and 1 or 0
 abbrev pub outcomeOf : List (List ℕ) → Option Call
 outcomeOf texts =
-    field (number largestNumber) texts λ id texts.
+    field idOf texts λ id texts.
     field letter texts λ b texts.
     andThen (workedBy b) λ worked. end texts (outcome id worked)
 

@@ -21,14 +21,14 @@ part s at stop = take (stop - at) (drop at s)
 abbrev pub left : List ℕ → ℕ → List (List ℕ)
 left s at = cond (leb at (length s)) (fields (drop at s)) []
 
--- at most five digits from a place on, and no more only where none follows
-pub record DigitsAt (s : List ℕ) (at : ℕ) (r : Digits) : Type 0 where
+-- at most so many digits from a place on, and fewer only where none follows
+pub record DigitsAt (most : ℕ) (s : List ℕ) (at : ℕ) (r : Digits) : Type 0 where
   pub from : at ≤ r .stop
   pub within : at ≤ length s → r .stop ≤ length s
   pub past : length s ≤ at → r .stop ≡ at
-  pub few : r .stop ≤ at + 5
+  pub few : r .stop ≤ at + most
   pub value : digitsFrom 0 (part s at (r .stop)) ≡ some (r .value)
-  pub stops : r .stop < length s → r .stop < at + 5 → isDigit (getD s (r .stop) 0) ≡ false
+  pub stops : r .stop < length s → r .stop < at + most → isDigit (getD s (r .stop) 0) ≡ false
 
 -- what is read after a number
 abbrev pub after : List ℕ → Numeral → (ℕ → List (List ℕ) → Option Call) → Option Call

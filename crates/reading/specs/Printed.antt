@@ -3,7 +3,7 @@ use Prim.Native.Nat.{ℕ}
 use mathlib.Core.Bool.{Bool, true, cond, _&&_}
 use mathlib.Core.List.{List, [], _∷_, _++_}
 use lib.Dec.{leb}
-use Rattle.model.specs.State.{Call, report, cycle, outcome}
+use Rattle.model.specs.State.{mostNumber, Call, report, cycle, outcome}
 use Rattle.printing.specs.Decimal.{decimal}
 use Rattle.printing.specs.LineText.{literalText}
 use Rattle.reading.specs.Call.{largestNumber}
@@ -14,10 +14,10 @@ callText (report kind literal) = 80 ∷ 32 ∷ (decimal kind ++ literalText lite
 callText cycle = 67 ∷ []
 callText (outcome id worked) = 79 ∷ 32 ∷ (decimal id ++ (32 ∷ cond worked 49 48 ∷ []))
 
--- its numbers take 16 bits
+-- its numbers can be read: an id up to the largest number of an instance, any other up to 16 bits
 unfoldable pub isStored : Call → Bool
 isStored (report kind l) =
     leb kind largestNumber
     && (leb (l .head) largestNumber && (leb (l .first) largestNumber && (leb (l .second) largestNumber && leb (l .third) largestNumber)))
 isStored cycle = true
-isStored (outcome id worked) = leb id largestNumber
+isStored (outcome id worked) = leb id mostNumber

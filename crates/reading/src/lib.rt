@@ -2,23 +2,28 @@
 ghost use mathlib.Core.Path.{_≡_};
 ghost use Prim.Native.Nat.{_≤_};
 ghost use lib.ListN.{length};
-ghost use Rattle.reading.specs.Call.{number, largestNumber, headOf, termsOf, reportOf, outcomeOf, callOf};
+ghost use Rattle.reading.specs.Call.{numeral, number, mostIdDigits, largestNumber, headOf, termsOf, reportOf, outcomeOf, callOf};
 ghost use Rattle.reading.specs.Spoken.{meaning, numberIn};
 ghost use Rattle.reading.specs.Places.{left, DigitsAt, Reads};
 use literal::Literal;
+use model::MOST_NUMBER;
 use model::Number;
 
 // The longest readable line has this many bytes.
 const MOST_LINE: usize = 32;
 
+// A kind, a predicate or a term has at most this many digits.
 const MOST_DIGITS: usize = 5;
+
+// And an id this many.
+const MOST_ID_DIGITS: usize = 10;
 
 const LARGEST_NUMBER: u32 = 65535;
 
 const LARGEST_PREDICATE: u32 = 32767;
 
 // What a negative literal's head has above its predicate.
-const NEGATIVE: u16 = 32768;
+const NEGATIVE: u32 = 32768;
 
 // What a line says: one of the three calls, or nothing.
 pub enum Spoken {
@@ -36,24 +41,25 @@ pub enum Word {
 
 // Digits from a place on: the number that they say, and where they stop.
 struct Digits {
-    value: u32,
+    value: u64,
     stop: usize,
 }
 
 // A field that is a number, and where the next field begins: one past the line's end where there is none.
 enum Numeral {
-    Is(u16, usize),
+    Is(u32, usize),
     Bad,
 }
 
-// At most five digits from a place on.
-fn digits_at(s: &[u8], at: usize) -> Digits
-    ensures { λ r. ⌜ DigitsAt (now (s .entry)) at r ⌝ }
+// At most so many digits from a place on.
+fn digits_at(s: &[u8], at: usize, most: usize) -> Digits
+    requires { ⌜ most ≤ mostIdDigits ⌝ }
+    ensures { λ r. ⌜ DigitsAt most (now (s .entry)) at r ⌝ }
 {
-    let mut value: u32 = 0;
+    let mut value: u64 = 0;
     let mut i = at;
     while i < s.len() {
-        if MOST_DIGITS <= i - at {
+        if most <= i - at {
             return Digits {
                 value: value,
                 stop: i,
@@ -72,7 +78,7 @@ fn digits_at(s: &[u8], at: usize) -> Digits
                 stop: i,
             };
         }
-        value = value * 10 + (b - b'0') as u32;
+        value = value * 10 + (b - b'0') as u64;
         i += 1;
     }
     Digits {
@@ -85,7 +91,7 @@ fn digits_at(s: &[u8], at: usize) -> Digits
 pub fn read_number(word: &[u8]) -> Word
     ensures { λ r. ⌜ numberIn r ≡ number largestNumber (now (word .entry)) ⌝ }
 {
-    let digits = digits_at(word, 0);
+    let digits = digits_at(word, 0, MOST_DIGITS);
     let stop = digits.stop;
     if stop == 0 {
         return Word::Other;
@@ -93,44 +99,44 @@ pub fn read_number(word: &[u8]) -> Word
     if stop < word.len() {
         return Word::Other;
     }
-    if LARGEST_NUMBER < digits.value {
+    if (LARGEST_NUMBER as u64) < digits.value {
         return Word::Other;
     }
     Word::Number(digits.value as u16)
 }
 
-// The field from a place on, as a number of at most so much.
-fn number_at(s: &[u8], at: usize, most: u32) -> Numeral
-    requires { ⌜ (length (now s) ≤ 32) × (most ≤ 65535) ⌝ }
-    ensures { λ r. ⌜ Reads (number most) most (now (s .entry)) at r ⌝ }
+// The field from a place on, as a number of so many digits that say at most so much.
+fn number_at(s: &[u8], at: usize, digits: usize, most: u32) -> Numeral
+    requires { ⌜ (length (now s) ≤ 32) × (digits ≤ mostIdDigits) ⌝ }
+    ensures { λ r. ⌜ Reads (numeral digits most) most (now (s .entry)) at r ⌝ }
 {
-    let digits = digits_at(s, at);
-    let stop = digits.stop;
+    let found = digits_at(s, at, digits);
+    let stop = found.stop;
     if stop <= at {
         return Numeral::Bad;
     }
-    if most < digits.value {
+    if (most as u64) < found.value {
         return Numeral::Bad;
     }
     if s.len() <= stop {
-        return Numeral::Is(digits.value as u16, stop + 1);
+        return Numeral::Is(found.value as u32, stop + 1);
     }
     if s[stop] != b' ' {
         return Numeral::Bad;
     }
-    Numeral::Is(digits.value as u16, stop + 1)
+    Numeral::Is(found.value as u32, stop + 1)
 }
 
 // The field from a place on, as a sign and a predicate.
 fn head_at(s: &[u8], at: usize) -> Numeral
     requires { ⌜ length (now s) ≤ 32 ⌝ }
-    ensures { λ r. ⌜ Reads headOf 65535 (now (s .entry)) at r ⌝ }
+    ensures { λ r. ⌜ Reads headOf largestNumber (now (s .entry)) at r ⌝ }
 {
     if s.len() <= at {
         return Numeral::Bad;
     }
     let sign = s[at];
-    let Numeral::Is(predicate, next) = number_at(s, at + 1, LARGEST_PREDICATE) else {
+    let Numeral::Is(predicate, next) = number_at(s, at + 1, MOST_DIGITS, LARGEST_PREDICATE) else {
         return Numeral::Bad;
     };
     if sign == b'+' {
@@ -147,13 +153,13 @@ fn terms_at(s: &[u8], at: usize, kind: u16, head: u16) -> Spoken
     requires { ⌜ length (now s) ≤ 32 ⌝ }
     ensures { λ r. ⌜ meaning r ≡ termsOf kind head (left (now (s .entry)) at) ⌝ }
 {
-    let Numeral::Is(first, second_at) = number_at(s, at, LARGEST_NUMBER) else {
+    let Numeral::Is(first, second_at) = number_at(s, at, MOST_DIGITS, LARGEST_NUMBER) else {
         return Spoken::Unreadable;
     };
-    let Numeral::Is(second, third_at) = number_at(s, second_at, LARGEST_NUMBER) else {
+    let Numeral::Is(second, third_at) = number_at(s, second_at, MOST_DIGITS, LARGEST_NUMBER) else {
         return Spoken::Unreadable;
     };
-    let Numeral::Is(third, next) = number_at(s, third_at, LARGEST_NUMBER) else {
+    let Numeral::Is(third, next) = number_at(s, third_at, MOST_DIGITS, LARGEST_NUMBER) else {
         return Spoken::Unreadable;
     };
     if next <= s.len() {
@@ -161,9 +167,9 @@ fn terms_at(s: &[u8], at: usize, kind: u16, head: u16) -> Spoken
     }
     let literal = Literal {
         head: head,
-        first: first,
-        second: second,
-        third: third,
+        first: first as u16,
+        second: second as u16,
+        third: third as u16,
     };
     Spoken::Report {
         kind: kind,
@@ -176,13 +182,13 @@ fn report_at(s: &[u8], at: usize) -> Spoken
     requires { ⌜ length (now s) ≤ 32 ⌝ }
     ensures { λ r. ⌜ meaning r ≡ reportOf (left (now (s .entry)) at) ⌝ }
 {
-    let Numeral::Is(kind, head_place) = number_at(s, at, LARGEST_NUMBER) else {
+    let Numeral::Is(kind, head_place) = number_at(s, at, MOST_DIGITS, LARGEST_NUMBER) else {
         return Spoken::Unreadable;
     };
     let Numeral::Is(head, next) = head_at(s, head_place) else {
         return Spoken::Unreadable;
     };
-    terms_at(s, next, kind, head)
+    terms_at(s, next, kind as u16, head as u16)
 }
 
 // What stands after O.
@@ -190,7 +196,7 @@ fn outcome_at(s: &[u8], at: usize) -> Spoken
     requires { ⌜ length (now s) ≤ 32 ⌝ }
     ensures { λ r. ⌜ meaning r ≡ outcomeOf (left (now (s .entry)) at) ⌝ }
 {
-    let Numeral::Is(id, next) = number_at(s, at, LARGEST_NUMBER) else {
+    let Numeral::Is(id, next) = number_at(s, at, MOST_ID_DIGITS, MOST_NUMBER) else {
         return Spoken::Unreadable;
     };
     if s.len() <= next {

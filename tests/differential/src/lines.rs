@@ -7,7 +7,7 @@ use crate::random::Random;
 use crate::unreadable;
 use reference::agent::Agent;
 use reference::journal::{Journal, write_line};
-use reference::state::Status;
+use reference::state::{Number, Status};
 
 /// How a journal leans; the first five are weights.
 struct Mood {
@@ -117,8 +117,9 @@ impl<'a> Writer<'a> {
         write_line(&mut self.output, &answer);
     }
 
-    fn number(&mut self, number: u16, padded: usize) -> String {
-        if self.random.percent(padded) { format!("{number:05}") } else { number.to_string() }
+    /// A number, in a share of the cases with as many digits as may be.
+    fn number(&mut self, number: Number, digits: usize, padded: usize) -> String {
+        if self.random.percent(padded) { format!("{number:0digits$}") } else { number.to_string() }
     }
 
     /// The share of numbers with leading zeros in a line: now and then all of them.
@@ -143,7 +144,7 @@ impl<'a> Writer<'a> {
         let [symbol, first, second, third] = *literal;
         let sign = if symbol < 32_768 { '+' } else { '-' };
         let padded = self.padded();
-        let numbers = [kind, symbol % 32_768, first, second, third].map(|number| self.number(number, padded));
+        let numbers = [kind, symbol % 32_768, first, second, third].map(|number| self.number(number.into(), 5, padded));
         let [kind, predicate, first, second, third] = numbers;
         self.line(format!("P {kind} {sign}{predicate} {first} {second} {third}").as_bytes());
     }
@@ -174,7 +175,7 @@ impl<'a> Writer<'a> {
         Some(self.random.pick(facts).stored())
     }
 
-    fn waiting(&self) -> Vec<u16> {
+    fn waiting(&self) -> Vec<Number> {
         let tops = self.journal.agent().stacks().iter().filter_map(|stack| stack.last());
         tops.filter(|top| top.status == Status::Waiting).map(|top| top.id).collect()
     }
@@ -187,7 +188,7 @@ impl<'a> Writer<'a> {
         }
         let id = *self.random.pick(&waiting);
         let padded = self.padded();
-        let id = self.number(id, padded);
+        let id = self.number(id, 10, padded);
         let worked = u8::from(self.random.percent(worked));
         self.line(format!("O {id} {worked}").as_bytes());
     }
@@ -208,12 +209,12 @@ impl<'a> Writer<'a> {
                 self.report_of(kind, &literal);
             }
             _ => {
-                let live: Vec<u16> = self.journal.agent().stacks().iter().flatten().map(|instance| instance.id).collect();
-                let any = self.random.below(65_536) as u16;
+                let live: Vec<Number> = self.journal.agent().stacks().iter().flatten().map(|instance| instance.id).collect();
+                let any = self.random.number() as Number;
                 let id = match self.random.below(3) {
                     0 if !live.is_empty() => *self.random.pick(&live),
-                    1 => *self.random.pick(&[0, 1, 2, 65_535, any]),
-                    _ => self.random.below(40) as u16,
+                    1 => *self.random.pick(&[0, 1, 2, 65_535, 65_536, Number::MAX, any]),
+                    _ => self.random.below(40) as Number,
                 };
                 let worked = self.random.below(2);
                 self.line(format!("O {id} {worked}").as_bytes());

@@ -13,7 +13,7 @@ use std::time::Instant;
 const USAGE: &str = "usage: differential [--seeds N] [--first N] [--long N] [--counts] [--strict] [PROVED [REFERENCE]]
   --seeds N   so many seeds (default 300), each a valid and a damaged library
   --first N   the first seed (default 0)
-  --long N    so many journals that spend all numbers (default 0)
+  --long N    so many journals whose numbers pass 65,535 (default 0)
   --counts    print how often each thing came up
   --strict    fail where something never came up
   PROVED      default: $PROVED, or target/bin/canarystand

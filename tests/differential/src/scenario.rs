@@ -3,6 +3,7 @@
 use crate::coverage::{Coverage, REFUSALS};
 use crate::damage::{TO_BYTES, TO_DRAFT, UNKNOWN};
 use crate::draft::{ACHIEVE, ADDED, Library, Plan, TOLD, V0};
+use crate::images::Image;
 use crate::lines::Writer;
 use crate::plans::{THEMES, Theme, library};
 use crate::random::Random;
@@ -10,6 +11,7 @@ use reference::agent::Agent;
 use reference::journal::Journal;
 use reference::literal::Fact;
 use reference::refusal::Refusal;
+use reference::state::Number;
 
 /// The most bytes that a library's file may have.
 pub const LARGEST_FILE: usize = 65_535;
@@ -120,7 +122,7 @@ pub fn fed(agent: Agent, input: &[u8]) -> (Vec<u8>, Agent) {
     (output, journal.into_agent())
 }
 
-/// A journal that spends the numbers of events (even) or of instances (odd).
+/// A journal whose numbers of events (even) or of instances (odd) pass 65,535.
 pub fn long(seed: u64, coverage: &mut Coverage) -> Scenario {
     let mut random = Random::new(seed ^ 0x5eed);
     let first = Plan { maintenance: vec![], ..Plan::simple(TOLD, [1, V0, 0, 0]) };
@@ -137,13 +139,33 @@ pub fn long(seed: u64, coverage: &mut Coverage) -> Scenario {
     }
     let bytes = draft.encode();
     let (output, beliefs) = answers(&bytes, &input);
-    for spent in ["X 9 report", "X 9 cycle"] {
-        let call = if spent == "X 9 cycle" { b'C' } else { b'P' };
-        let lines = input.split(|byte| *byte == b'\n').zip(output.split(|byte| *byte == b'\n'));
-        for _ in lines.filter(|(line, answer)| line.first() == Some(&call) && *answer == b"X 9") {
-            coverage.note(spent);
-            coverage.note("X 9");
-        }
+    for (letter, name) in [("T ", "T over 65,535"), ("M ", "M over 65,535")] {
+        let numbers = output.split(|byte| *byte == b'\n').filter_map(|line| std::str::from_utf8(line).ok()?.strip_prefix(letter));
+        let passed =
+            |line: &&str| line.split(' ').next().is_some_and(|number| number.parse().is_ok_and(|number: u32| number > 65_535));
+        numbers.filter(passed).for_each(|_| coverage.note(name));
     }
     Scenario { name: format!("long {seed}"), library: Some(bytes), input, output, beliefs: beliefs.unwrap_or_default() }
+}
+
+/// An image close to a limit of its numbers, and a journal that goes on from it.
+pub struct Season {
+    pub image: Vec<u8>,
+    pub input: Vec<u8>,
+}
+
+/// A new agent that has taken events, and made instances, nearly up to 65,535 or to the last number, with a journal.
+pub fn season(seed: u64, coverage: &mut Coverage) -> Season {
+    let mut random = Random::new(seed ^ 0x5ea5_0000);
+    let theme = *random.pick(&[Theme::Mixed, Theme::Tower, Theme::Racks]);
+    let (draft, words) = library(&mut random, theme);
+    let decoded = reference::library::Library::decode(&draft.encode()).expect("a drafted library is valid");
+    let mut image = Image::of(&Agent::new(decoded));
+    let close_to = |random: &mut Random| random.pick(&[65_535, Number::MAX, Number::MAX]) - random.below(40) as Number;
+    (image.taken, image.made) = (close_to(&mut random), close_to(&mut random));
+    let bytes = image.encode();
+    let agent = reference::image::restore(&bytes).expect("an agent may have any counts");
+    let mut writer = Writer::new(&mut random, coverage, &draft, &words, agent);
+    writer.write();
+    Season { image: bytes, input: writer.input }
 }

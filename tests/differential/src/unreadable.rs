@@ -25,8 +25,10 @@ pub const KINDS: &[(&str, Break)] = &[
     ("two signs", |random| report(random, &["+-1", "--1", "++1"])),
     ("predicate over 32,767", |random| report(random, &["+32768", "-32768", "+65535", "-65536", "+99999"])),
     ("predicate of six digits", |random| report(random, &["-000001", "+100000"])),
-    ("number over 65,535", |random| with_number(random, |random| random.between(65_536, 99_999).to_string())),
-    ("six digits", |random| with_number(random, |random| format!("{:06}", random.below(1_000_000)))),
+    ("number over 65,535", |random| in_report(random, |random| random.between(65_536, 99_999).to_string())),
+    ("six digits", |random| in_report(random, |random| format!("{:06}", random.below(1_000_000)))),
+    ("id over 4,294,967,295", |random| in_outcome(random, |random| random.between(4_294_967_296, 9_999_999_999).to_string())),
+    ("eleven digits", |random| in_outcome(random, |random| format!("{:011}", random.below(100_000)))),
     ("twenty digits", |random| with_number(random, |_| "18446744073709551617".to_string())),
     ("no number", |random| with_number(random, |random| random.pick(&["x", "0x1", "1a", "V0", "1.", ""]).to_string())),
     ("signed number", |random| with_number(random, |random| random.pick(&["+1", "-1", "-0"]).to_string())),
@@ -78,12 +80,19 @@ fn without_some_field(random: &mut Random) -> Vec<u8> {
 
 /// A line with one bad number among good ones.
 fn with_number(random: &mut Random, bad: fn(&mut Random) -> String) -> Vec<u8> {
+    if random.percent(20) { in_outcome(random, bad) } else { in_report(random, bad) }
+}
+
+fn in_outcome(random: &mut Random, bad: fn(&mut Random) -> String) -> Vec<u8> {
+    format!("O {} 1", bad(random)).into_bytes()
+}
+
+fn in_report(random: &mut Random, bad: fn(&mut Random) -> String) -> Vec<u8> {
     let bad = bad(random);
-    match random.below(5) {
-        0 => format!("O {bad} 1"),
-        1 => format!("P {bad} +1 0 0 0"),
-        2 => format!("P 0 +1 {bad} 0 0"),
-        3 => format!("P 0 +1 0 {bad} 0"),
+    match random.below(4) {
+        0 => format!("P {bad} +1 0 0 0"),
+        1 => format!("P 0 +1 {bad} 0 0"),
+        2 => format!("P 0 +1 0 {bad} 0"),
         _ => format!("P 0 +1 0 0 {bad}"),
     }
     .into_bytes()

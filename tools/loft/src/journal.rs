@@ -28,7 +28,7 @@ fn read_call(line: &[u8]) -> Option<Call> {
     let call = match words.next()? {
         b"P" => Call::Report(number(words.next()?)?, literal(&mut words)?),
         b"C" => Call::Cycle,
-        b"O" => Call::Outcome(number(words.next()?)?.into(), flag(words.next()?)?),
+        b"O" => Call::Outcome(id(words.next()?)?, flag(words.next()?)?),
         _ => return None,
     };
     words.next().is_none().then_some(call)
@@ -36,11 +36,21 @@ fn read_call(line: &[u8]) -> Option<Call> {
 
 /// One to five digits, at most 65,535.
 fn number(word: &[u8]) -> Option<u16> {
-    if !(1..=5).contains(&word.len()) {
+    digits(word, 5)?.try_into().ok()
+}
+
+/// One to ten digits, at most 4,294,967,295.
+fn id(word: &[u8]) -> Option<u32> {
+    digits(word, 10)?.try_into().ok()
+}
+
+/// What one to `most` digits say.
+fn digits(word: &[u8], most: usize) -> Option<u64> {
+    if !(1..=most).contains(&word.len()) {
         return None;
     }
-    let digit = |value: u32, byte: &u8| byte.is_ascii_digit().then(|| value * 10 + u32::from(byte - b'0'));
-    word.iter().try_fold(0, digit)?.try_into().ok()
+    let digit = |value: u64, byte: &u8| byte.is_ascii_digit().then(|| value * 10 + u64::from(byte - b'0'));
+    word.iter().try_fold(0, digit)
 }
 
 fn flag(word: &[u8]) -> Option<bool> {

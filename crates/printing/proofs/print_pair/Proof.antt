@@ -16,8 +16,8 @@ returns-2 c = record { line = λ room. absurd (omega arith); unwritten = λ full
 put-wide-requires : tie.Need-put-wide-requires
 put-wide-requires c κs = search needs
 
-put-count-requires : tie.Need-put-count-requires
-put-count-requires c κs = search needs
+put-field-requires : tie.Need-put-field-requires
+put-field-requires c κs = search needs
 
 put-requires : tie.Need-put-requires
 put-requires c κs = search needs
@@ -28,7 +28,7 @@ same-length c = search needs
 returns-3 : tie.Need-returns-3
 unfolding pairText
 returns-3 c = record {
-  line = λ room. then ((c .before .before .before .before .before .before .before .before .before .before .put-wide) .ensures) (then ((c .before .before .before .before .before .before .put-count) .ensures) ((c .before .before .put) .ensures));
+  line = λ room. then ((c .before .before .before .before .before .before .before .before .before .before .put-wide) .ensures) (then ((c .before .before .before .before .before .before .put-field) .ensures) ((c .before .before .put) .ensures));
   unwritten = λ full. absurd (omega arith);
   unmoved = λ full. absurd (omega arith);
 }
@@ -40,7 +40,7 @@ print-pair-spec =
     returns
     returns-2
     put-wide-requires
-    put-count-requires
+    put-field-requires
     put-requires
     same-length
     returns-3)

@@ -28,8 +28,8 @@ enum-known-answer-2 c = search needs
 put-one-requires-2 : tie.Need-put-one-requires-2
 put-one-requires-2 c κs = search needs
 
-put-count-requires : tie.Need-put-count-requires
-put-count-requires c κs = search needs
+put-field-requires : tie.Need-put-field-requires
+put-field-requires c κs = search needs
 
 enum-known-answer-3 : tie.Need-enum-known-answer-3
 enum-known-answer-3 c = search needs
@@ -37,8 +37,8 @@ enum-known-answer-3 c = search needs
 put-three-requires : tie.Need-put-three-requires
 put-three-requires c κs = search needs
 
-put-count-requires-2 : tie.Need-put-count-requires-2
-put-count-requires-2 c κs = search needs
+put-field-requires-2 : tie.Need-put-field-requires-2
+put-field-requires-2 c κs = search needs
 
 enum-known-answer-4 : tie.Need-enum-known-answer-4
 enum-known-answer-4 c = search needs
@@ -66,6 +66,9 @@ put-one-requires-4 c κs = search needs
 
 enum-known-answer-8 : tie.Need-enum-known-answer-8
 enum-known-answer-8 c = search needs
+
+cast-put-one : tie.Need-cast-put-one
+cast-put-one c = search needs
 
 put-one-requires-5 : tie.Need-put-one-requires-5
 put-one-requires-5 c κs = search needs
@@ -99,7 +102,7 @@ same-length-3 c = search needs
 returns-3 : tie.Need-returns-3
 unfolding fieldsOf all
 returns-3 c = (
-  written (dropped ((c .before .before .before .before .before .before .before .before .before .answer2) .given .1)) (widen (lit≤ tt) (then ((c .before .before .before .before .before .before .put-one2) .ensures) ((c .before .before .put-count) .ensures))),
+  written (dropped ((c .before .before .before .before .before .before .before .before .before .answer2) .given .1)) (widen (lit≤ tt) (then ((c .before .before .before .before .before .before .put-one2) .ensures) ((c .before .before .put-field) .ensures))),
   rw ((c .before .before .before .before .before .before .before .before .before .answer2) .given .1),
 )
 
@@ -109,7 +112,7 @@ same-length-4 c = search needs
 returns-4 : tie.Need-returns-4
 unfolding fieldsOf all
 returns-4 c = (
-  written (unmet ((c .before .before .before .before .before .before .before .before .before .answer3) .given .1)) (widen (lit≤ tt) (then ((c .before .before .before .before .before .before .put-three) .ensures) ((c .before .before .put-count2) .ensures))),
+  written (unmet ((c .before .before .before .before .before .before .before .before .before .answer3) .given .1)) (widen (lit≤ tt) (then ((c .before .before .before .before .before .before .put-three) .ensures) ((c .before .before .put-field2) .ensures))),
   rw ((c .before .before .before .before .before .before .before .before .before .answer3) .given .1),
 )
 
@@ -179,10 +182,10 @@ put-answer-spec =
     put-requires
     enum-known-answer-2
     put-one-requires-2
-    put-count-requires
+    put-field-requires
     enum-known-answer-3
     put-three-requires
-    put-count-requires-2
+    put-field-requires-2
     enum-known-answer-4
     put-made-requires
     enum-known-answer-5
@@ -192,6 +195,7 @@ put-answer-spec =
     enum-known-answer-7
     put-one-requires-4
     enum-known-answer-8
+    cast-put-one
     put-one-requires-5
     put-try-requires
     same-length

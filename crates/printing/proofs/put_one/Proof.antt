@@ -8,15 +8,15 @@ use Rattle.printing.proofs.put_one.Tie as tie
 put-requires : tie.Need-put-requires
 put-requires c κs = search needs
 
-put-number-requires : tie.Need-put-number-requires
-put-number-requires c κs = search needs
+put-field-requires : tie.Need-put-field-requires
+put-field-requires c κs = search needs
 
 same-length : tie.Need-same-length
 same-length c = search needs
 
 returns : tie.Need-returns
 unfolding fieldText
-returns c = then ((c .before .before .before .before .before .before .put) .ensures) (then ((c .before .before .put-number) .ensures) nothing)
+returns c = then ((c .before .before .before .before .before .before .put) .ensures) (then ((c .before .before .put-field) .ensures) nothing)
 
 pub put-one-spec : {M : Type 1} → statement M
-put-one-spec = tie.close (tie.spec put-requires put-number-requires same-length returns)
+put-one-spec = tie.close (tie.spec put-requires put-field-requires same-length returns)

@@ -1,4 +1,4 @@
--- `reading::digits_at` meets its contract. The loop's invariant: the bytes passed are at most five digits, and say the value so far.
+-- `reading::digits_at` meets its contract. The loop's invariant: the bytes passed are at most so many digits, and say the value so far.
 use Prim.Native.Nat.{_+_, suc, _-_, _^_, _≤_, _<_}
 use mathlib.Core.Path.{_≡_, refl}
 use mathlib.Core.Option.{some}
@@ -13,10 +13,10 @@ use Rattle.reading.proofs.digits_at.Statement.{statement}
 use Rattle.reading.proofs.digits_at.Tie as tie
 
 abbrev Inv-loop : tie.InvT-loop
-Inv-loop s at value₀ i₀ value i = (at ≤ i) × (at ≤ length s → i ≤ length s) × (length s ≤ at → i ≡ at) × (i ≤ at + 5) × (value < 10 ^ (i - at)) × (digitsFrom 0 (part s at i) ≡ some value)
+Inv-loop s at most value₀ i₀ value i = (at ≤ i) × (at ≤ length s → i ≤ length s) × (length s ≤ at → i ≡ at) × (i ≤ at + most) × (value < 10 ^ (i - at)) × (digitsFrom 0 (part s at i) ≡ some value)
 
 abbrev μ-loop : tie.MeasureT-loop
-μ-loop s at value₀ i₀ value i = length s - i
+μ-loop s at most value₀ i₀ value i = length s - i
 
 loop-holds : tie.Need-loop-holds Inv-loop μ-loop
 loop-holds c =

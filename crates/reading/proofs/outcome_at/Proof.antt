@@ -2,10 +2,10 @@
 use Prim.Native.Nat.{ℕ}
 use mathlib.Core.Option.{Option}
 use mathlib.Core.List.{List}
-use Rattle.model.specs.State.{Call}
+use Rattle.model.specs.State.{mostNumber, Call}
 use mathlib.Core.Path.{sym, _∙_}
 use borrow.Author.Tests.{eq-eqb, ne-eqb}
-use Rattle.reading.specs.Call.{number, largestNumber, letter, field}
+use Rattle.reading.specs.Call.{idOf, letter, field}
 use Rattle.reading.proofs.PlaceLaws.{goes-on, goes-wrong}
 use Rattle.reading.proofs.CallLaws.{told, worked-missing, worked-last, worked-further}
 use borrow.Author.Needs.{needs}
@@ -28,14 +28,14 @@ returns : tie.Need-returns
 returns c =
     let a = (c .before .before .before .before .args) in
     let n = (c .before .before .number-at) in
-    sym (goes-wrong (number largestNumber) largestNumber (a .s .now) (a .at) (n .result) (n .ensures) afterId ((c .enum-told) .given .1))
+    sym (goes-wrong idOf mostNumber (a .s .now) (a .at) (n .result) (n .ensures) afterId ((c .enum-told) .given .1))
 
 returns-2 : tie.Need-returns-2
 returns-2 c =
     let a = (c .before .before .before .before .before .before .args) in
     let n = (c .before .before .before .before .number-at) in
     let v = (c .before .before .id) .given in
-    sym (goes-on (number largestNumber) largestNumber (a .s .now) (a .at) (n .result) (n .ensures) afterId (v .0 .0) (v .0 .1 .0) (v .1)
+    sym (goes-on idOf mostNumber (a .s .now) (a .at) (n .result) (n .ensures) afterId (v .0 .0) (v .0 .1 .0) (v .1)
     ∙ worked-missing (a .s .now) (v .0 .1 .0) (v .0 .0) ((c .if1) .taken))
 
 add-if2 : tie.Need-add-if2
@@ -46,7 +46,7 @@ returns-3 c =
     let a = (c .before .before .before .before .before .before .before .args) in
     let n = (c .before .before .before .before .before .number-at) in
     let v = (c .before .before .before .id) .given in
-    sym (goes-on (number largestNumber) largestNumber (a .s .now) (a .at) (n .result) (n .ensures) afterId (v .0 .0) (v .0 .1 .0) (v .1)
+    sym (goes-on idOf mostNumber (a .s .now) (a .at) (n .result) (n .ensures) afterId (v .0 .0) (v .0 .1 .0) (v .1)
     ∙ worked-further (a .s .now) (v .0 .1 .0) (v .0 .0) ((c .if2) .taken))
 
 shared-slice-read-b : tie.Need-shared-slice-read-b
@@ -57,7 +57,7 @@ returns-4 c =
     let a = (c .before .before .before .before .before .before .before .before .before .args) in
     let n = (c .before .before .before .before .before .before .before .number-at) in
     let v = (c .before .before .before .before .before .id) .given in
-    sym (goes-on (number largestNumber) largestNumber (a .s .now) (a .at) (n .result) (n .ensures) afterId (v .0 .0) (v .0 .1 .0) (v .1)
+    sym (goes-on idOf mostNumber (a .s .now) (a .at) (n .result) (n .ensures) afterId (v .0 .0) (v .0 .1 .0) (v .1)
     ∙ worked-last (a .s .now) (v .0 .1 .0) (v .0 .0) ((c .before .before .before .if1) .left) ((c .before .before .if2) .left)
     ∙ rw (eq-eqb _ 49 ((c .if3) .taken)))
 
@@ -66,7 +66,7 @@ returns-5 c =
     let a = (c .before .before .before .before .before .before .before .before .before .before .args) in
     let n = (c .before .before .before .before .before .before .before .before .number-at) in
     let v = (c .before .before .before .before .before .before .id) .given in
-    sym (goes-on (number largestNumber) largestNumber (a .s .now) (a .at) (n .result) (n .ensures) afterId (v .0 .0) (v .0 .1 .0) (v .1)
+    sym (goes-on idOf mostNumber (a .s .now) (a .at) (n .result) (n .ensures) afterId (v .0 .0) (v .0 .1 .0) (v .1)
     ∙ worked-last (a .s .now) (v .0 .1 .0) (v .0 .0) ((c .before .before .before .before .if1) .left) ((c .before .before .before .if2) .left)
     ∙ rw (ne-eqb _ 49 ((c .before .if3) .left), eq-eqb _ 48 ((c .if4) .taken)))
 
@@ -75,7 +75,7 @@ returns-6 c =
     let a = (c .before .before .before .before .before .before .before .before .before .before .args) in
     let n = (c .before .before .before .before .before .before .before .before .number-at) in
     let v = (c .before .before .before .before .before .before .id) .given in
-    sym (goes-on (number largestNumber) largestNumber (a .s .now) (a .at) (n .result) (n .ensures) afterId (v .0 .0) (v .0 .1 .0) (v .1)
+    sym (goes-on idOf mostNumber (a .s .now) (a .at) (n .result) (n .ensures) afterId (v .0 .0) (v .0 .1 .0) (v .1)
     ∙ worked-last (a .s .now) (v .0 .1 .0) (v .0 .0) ((c .before .before .before .before .if1) .left) ((c .before .before .before .if2) .left)
     ∙ rw (ne-eqb _ 49 ((c .before .if3) .left), ne-eqb _ 48 ((c .if4) .left)))
 

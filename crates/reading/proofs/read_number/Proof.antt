@@ -20,13 +20,16 @@ returns-2 c =
     let d = (c .before .before .digits-at) in
     sym (word-cut ((c .before .before .before .before .args) .word .now) (d .result) (d .ensures) largestNumber ((c .if2) .taken))
 
+cast-if3 : tie.Need-cast-if3
+cast-if3 c = search needs
+
 returns-3 : tie.Need-returns-3
 returns-3 c =
     let d = (c .before .before .before .before .digits-at) in
     sym (word-over ((c .before .before .before .before .before .before .args) .word .now) (d .result) (d .ensures) largestNumber (omega (arith, (c .before .before .before .if1) .left)) ((c .before .before .if2) .left) ((c .if3) .taken))
 
-cast-t6 : tie.Need-cast-t6
-cast-t6 c = search needs
+cast-t7 : tie.Need-cast-t7
+cast-t7 c = search needs
 
 returns-4 : tie.Need-returns-4
 returns-4 c =
@@ -35,4 +38,4 @@ returns-4 c =
 
 pub read-number-spec : {M : Type 1} → statement M
 read-number-spec =
-    tie.close (tie.spec digits-at-requires returns returns-2 returns-3 cast-t6 returns-4)
+    tie.close (tie.spec digits-at-requires returns returns-2 cast-if3 returns-3 cast-t7 returns-4)

@@ -1,10 +1,12 @@
 -- `reading::report_at` meets its contract: the kind, then the head, then the terms.
 use Prim.Native.Nat.{ℕ}
-use mathlib.Core.Path.{sym, _∙_}
+use native.Mathlib.Omega.{arith}
+use mathlib.Core.Path.{sym, ap, _∙_}
 use mathlib.Core.Option.{Option}
 use mathlib.Core.List.{List}
 use Rattle.model.specs.State.{Call}
 use Rattle.reading.specs.Call.{number, largestNumber, headOf, field, termsOf}
+use Rattle.reading.specs.Places.{valueOf}
 use Rattle.reading.proofs.PlaceLaws.{goes-on, goes-wrong}
 use borrow.Author.Needs.{needs}
 use Rattle.reading.proofs.report_at.Statement.{statement}
@@ -46,6 +48,13 @@ returns-2 c =
     sym (goes-on (number largestNumber) largestNumber (a .s .now) (a .at) (n .result) (n .ensures) afterKind (v .0 .0) (v .0 .1 .0) (v .1)
     ∙ goes-wrong headOf largestNumber (a .s .now) (v .0 .1 .0) (h .result) (h .ensures) (termsOf (v .0 .0)) ((c .enum-told2) .given .1))
 
+-- the kind and the head take 16 bits
+cast-terms-at : tie.Need-cast-terms-at
+cast-terms-at c = omega (arith, (c .before .before .before .before .before .before .before .number-at) .ensures .small, ap valueOf ((c .before .before .before .before .before .kind) .given .1))
+
+cast-terms-at-2 : tie.Need-cast-terms-at-2
+cast-terms-at-2 c = omega (arith, (c .before .before .before .head-at) .ensures .small, ap valueOf ((c .before .head) .given .1))
+
 terms-at-requires : tie.Need-terms-at-requires
 terms-at-requires c κs = search needs
 
@@ -71,5 +80,7 @@ report-at-spec =
     enum-known-head
     enum-told-2
     returns-2
+    cast-terms-at
+    cast-terms-at-2
     terms-at-requires
     returns-3)

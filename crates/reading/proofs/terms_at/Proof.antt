@@ -1,11 +1,12 @@
 -- `reading::terms_at` meets its contract: each number, then what is read after it, and no field at the end.
 use Prim.Native.Nat.{ℕ}
-use mathlib.Core.Path.{sym, _∙_}
+use native.Mathlib.Omega.{arith}
+use mathlib.Core.Path.{sym, ap, _∙_}
 use mathlib.Core.Option.{Option}
 use mathlib.Core.List.{List}
 use Rattle.model.specs.State.{Call, report}
 use Rattle.reading.specs.Call.{number, largestNumber, field, end}
-use Rattle.reading.specs.Places.{left}
+use Rattle.reading.specs.Places.{valueOf}
 use Rattle.reading.proofs.PlaceLaws.{goes-on, goes-wrong}
 use Rattle.reading.proofs.CallLaws.{end-further, end-reached}
 use borrow.Author.Needs.{needs}
@@ -90,6 +91,16 @@ returns-4 c =
     ∙ goes-on (number largestNumber) largestNumber (a .s .now) (v2 .0 .1 .0) (n3 .result) (n3 .ensures) (after3 (a .kind) (a .head) (v1 .0 .0) (v2 .0 .0)) (v3 .0 .0) (v3 .0 .1 .0) (v3 .1)
     ∙ end-further (a .s .now) (v3 .0 .1 .0) (report (a .kind) (record { head = a .head; first = v1 .0 .0; second = v2 .0 .0; third = v3 .0 .0 })) ((c .if1) .taken))
 
+-- each term takes 16 bits
+cast-t17 : tie.Need-cast-t17
+cast-t17 c = omega (arith, (c .before .before .before .before .before .before .before .before .before .before .before .before .number-at) .ensures .small, ap valueOf ((c .before .before .before .before .before .before .before .before .before .before .first) .given .1))
+
+cast-t18 : tie.Need-cast-t18
+cast-t18 c = omega (arith, (c .before .before .before .before .before .before .before .before .number-at2) .ensures .small, ap valueOf ((c .before .before .before .before .before .before .second) .given .1))
+
+cast-t19 : tie.Need-cast-t19
+cast-t19 c = omega (arith, (c .before .before .before .before .number-at3) .ensures .small, ap valueOf ((c .before .before .third) .given .1))
+
 returns-5 : tie.Need-returns-5
 returns-5 c =
     let a = (c .before .before .before .before .before .before .before .before .before .before .before .before .before .before .args) in
@@ -121,4 +132,7 @@ terms-at-spec =
     enum-told-3
     returns-3
     returns-4
+    cast-t17
+    cast-t18
+    cast-t19
     returns-5)

@@ -1,9 +1,10 @@
 //! Carries generated journals over several shifts, by the proved program and by the reference, and compares what they write and the
 //! images that they leave: `shifts PROVED REFERENCE [SEEDS]`. Then the images are damaged, and the answers are compared.
+//! Some journals start from an image close to the last number; some images are handed on in the oldest form.
 
-use differential::coverage::Coverage;
-use differential::images::Image;
+use differential::coverage::{Coverage, SPENT};
 use differential::images::kinds::{Kind, kinds};
+use differential::images::{Form, Image};
 use differential::programs::{Feed, Files, Program, Shift};
 use differential::random::Random;
 use differential::scenario;
@@ -23,8 +24,16 @@ const DAMAGED: usize = 10;
 /// The lines that an accepted image is carried on with.
 const CARRIED_ON: usize = 60;
 const SHIFT: &[&str] = &["shift"];
+/// The first byte of an image of the oldest form.
+const OLDEST: u8 = 20;
 /// One in so many shifts is also run by the reference as a program.
 const SAMPLE: u64 = 16;
+/// The share of images that are handed on, or damaged, in the oldest form, and of journals that start close to the last number.
+const OLD: usize = 35;
+const SEASONS: usize = 25;
+/// What else is to come up, beside the kinds of damage and what the images hold.
+const WANTED: &[&str] =
+    &["old image carried over", "old image, accepted", "old image, X 12", "old image, X 10", "T over 65,535", "M over 65,535"];
 /// How often each answer to a damaged image is to come, for each seed.
 const FLOORS: [(&str, u64); 3] = [("X 12", 6), ("X 10", 6), ("accepted", 6)];
 type Test = fn(&Agent) -> bool;
@@ -69,6 +78,7 @@ fn run(proved: &str, reference: &str, seeds: u64) -> Result<(), String> {
         proved: Program::new(proved)?,
         reference: Program::new(reference)?,
         counts: BTreeMap::new(),
+        coverage: Coverage::default(),
         kinds: kinds(),
         next_kind: 0,
     };
@@ -79,7 +89,7 @@ fn run(proved: &str, reference: &str, seeds: u64) -> Result<(), String> {
     let answers = FLOORS.map(|(name, _)| format!("{name}: {}", survey.count(name))).join(", ");
     let (shifts, images, seconds) = (survey.count("shifts"), survey.count("damaged images"), start.elapsed().as_secs_f64());
     println!("shifts: {shifts} shifts of {seeds} journals and {images} damaged images agree in {seconds:.1} s; {answers}");
-    let depths = DEPTHS.iter().map(|(name, _)| *name);
+    let depths = DEPTHS.iter().map(|(name, _)| *name).chain(WANTED.iter().copied()).chain(SPENT.iter().copied());
     let names = survey.kinds.iter().map(|kind| kind.name).chain(depths);
     let rarest: Vec<(u64, &str)> = names.map(|name| (survey.count(name), name)).collect();
     if let Some((count, name)) = rarest.iter().min() {
@@ -99,13 +109,21 @@ struct Survey {
     proved: Program,
     reference: Program,
     counts: BTreeMap<String, u64>,
+    /// What came up in the journals that start close to the last number.
+    coverage: Coverage,
     kinds: Vec<Kind>,
     next_kind: usize,
 }
 
 impl Survey {
     fn count(&self, name: &str) -> u64 {
-        self.counts.get(name).copied().unwrap_or(0)
+        self.counts.get(name).copied().unwrap_or(0) + self.coverage.count(name)
+    }
+
+    fn note_if(&mut self, holds: bool, name: &str) {
+        if holds {
+            self.note(name);
+        }
     }
 
     fn note(&mut self, name: &str) {
@@ -116,13 +134,29 @@ impl Survey {
     fn journal(&mut self, seed: u64) -> Result<(), String> {
         let mut random = Random::new(seed ^ 0x5417);
         let scenario = scenario::valid(seed, &mut Coverage::default());
-        let answers = self.carried(scenario.library.as_deref(), &scenario.input, &mut random)?;
-        if answers == scenario.output { Ok(()) } else { Err("the answers are not those without a cut".to_string()) }
+        if self.carried(scenario.library.as_deref(), None, &scenario.input, &mut random)? != scenario.output {
+            return Err("the answers are not those without a cut".to_string());
+        }
+        if !random.percent(SEASONS) {
+            return Ok(());
+        }
+        let season = scenario::season(seed, &mut self.coverage);
+        let whole = expected(&image_alone(&season.image), &season.input).output;
+        if self.carried(None, Some(season.image), &season.input, &mut random)? != whole {
+            return Err("close to the last number, the answers are not those without a cut".to_string());
+        }
+        Ok(())
     }
 
-    /// The answers to the lines in several shifts. The images in between are also damaged.
-    fn carried(&mut self, library: Option<&[u8]>, input: &[u8], random: &mut Random) -> Result<Vec<u8>, String> {
-        let (mut held, mut output): (Option<Vec<u8>>, _) = (None, vec![]);
+    /// The answers to the lines in several shifts, from a library or an image. The images in between are also damaged.
+    fn carried(
+        &mut self,
+        library: Option<&[u8]>,
+        mut held: Option<Vec<u8>>,
+        input: &[u8],
+        random: &mut Random,
+    ) -> Result<Vec<u8>, String> {
+        let mut output = vec![];
         let parts = parts(input, random);
         for (place, part) in parts.iter().enumerate() {
             // where there is an image, no library is read
@@ -136,7 +170,9 @@ impl Survey {
             for _ in 0..DAMAGED {
                 self.damaged(&image, &next[..next.len().min(CARRIED_ON)].concat(), random)?;
             }
-            held = Some(image);
+            let old = if random.percent(OLD) { apart(&image)?.narrowed() } else { None };
+            self.note_if(old.is_some(), "old image carried over");
+            held = Some(old.map_or(image, |old| old.encode()));
         }
         Ok(output)
     }
@@ -171,21 +207,24 @@ impl Survey {
         Ok(shift)
     }
 
-    /// The image, damaged in the next way that can be.
-    fn next_damage(&mut self, image: &[u8], random: &mut Random) -> Result<(Kind, Vec<u8>), String> {
-        let whole = apart(image)?;
+    /// The image in the newest or the oldest form, damaged in the next way that can be.
+    fn next_damage(&mut self, image: &[u8], random: &mut Random) -> Result<(Kind, Form, Vec<u8>), String> {
+        let mut whole = apart(image)?;
+        if random.percent(OLD) {
+            whole = whole.clone().narrowed().unwrap_or(whole);
+        }
         loop {
             let kind = self.kinds[self.next_kind % self.kinds.len()];
             self.next_kind += 1;
             if let Some(bytes) = kind.damage(&whole, random) {
-                return Ok((kind, bytes));
+                return Ok((kind, whole.form, bytes));
             }
         }
     }
 
     /// Damages the image and compares the answers: a refusal, or an agent with that image.
     fn damaged(&mut self, image: &[u8], input: &[u8], random: &mut Random) -> Result<(), String> {
-        let (kind, bytes) = self.next_damage(image, random)?;
+        let (kind, form, bytes) = self.next_damage(image, random)?;
         let name = kind.name;
         self.note(name);
         self.note("damaged images");
@@ -193,10 +232,14 @@ impl Survey {
         if kind.known.is_some_and(|known| known != answer) {
             return Err(format!("{name}: the reference answers {answer:?}"));
         }
-        self.note(&answer.map_or("accepted".to_string(), |number| format!("X {number}")));
+        let said = answer.map_or("accepted".to_string(), |number| format!("X {number}"));
+        self.note(&said);
+        self.note_if(form == Form::Narrow, &format!("old image, {said}"));
         let files = image_alone(&bytes);
         let shift = self.shift(&files, b"", Feed::Whole).map_err(|difference| format!("{name}: {difference}"))?;
-        if shift.image.as_deref() != Some(&bytes[..]) {
+        // an accepted image of the oldest form is saved in the newest
+        let kept = answer.is_some() || bytes[0] != OLDEST;
+        if kept && shift.image.as_deref() != Some(&bytes[..]) {
             return Err(format!("{name}: the image is not left as it was"));
         }
         match answer {

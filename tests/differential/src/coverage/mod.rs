@@ -7,15 +7,19 @@ use reference::belief::{Beliefs, MOST_BELIEFS, Situation};
 use reference::library::{Action, BranchKind};
 use reference::literal::Bindings;
 use reference::refusal::Refusal;
-use reference::state::{Event, Instance, Origin, Place};
+use reference::state::{Event, Instance, Number, Origin, Place};
 use std::collections::BTreeMap;
 
 mod division;
 mod least;
 
-/// The letters of the journal and the refusals by number.
+/// The letters of the journal and the refusals by number, but for the one that only an image close to the last number meets.
 pub const LETTERS: &[&str] = &["T", "I", "N", "U", "M e", "M g", "S", "B", "D", "G", "E", "F"];
-pub const REFUSALS: &[&str] = &["X 0", "X 1", "X 2", "X 3", "X 4", "X 5", "X 6", "X 7", "X 8", "X 9"];
+pub const REFUSALS: &[&str] = &["X 0", "X 1", "X 2", "X 3", "X 4", "X 5", "X 6", "X 7", "X 8"];
+/// What comes of numbers that are spent.
+pub const SPENT: &[&str] = &["X 9 report", "X 9 cycle"];
+/// The last number that the oldest images and journals could hold.
+const LAST_NARROW: Number = 65_535;
 /// What a journal is to reach beyond its letters.
 pub const DEPTHS: &[&str] = &[
     "T of a held belief",
@@ -77,8 +81,8 @@ pub const DEPTHS: &[&str] = &[
     "X 7 at full beliefs",
     "X 8 of a live id",
     "X 8 of an ended id",
-    "X 9 report",
-    "X 9 cycle",
+    "T over 65,535",
+    "M over 65,535",
 ];
 
 /// How often each thing came up.
@@ -111,7 +115,7 @@ impl Watch {
         self.beliefs.facts().len() == MOST_BELIEFS
     }
 
-    fn top(&self, id: u16) -> Option<&(Instance, usize)> {
+    fn top(&self, id: Number) -> Option<&(Instance, usize)> {
         self.tops.iter().find(|(instance, _)| instance.id == id)
     }
 }
@@ -171,7 +175,7 @@ impl Coverage {
     }
 
     pub fn refusal(&mut self, before: &Watch, line: &[u8], refusal: Refusal) {
-        self.note(REFUSALS[usize::from(refusal.number())]);
+        REFUSALS.get(usize::from(refusal.number())).into_iter().for_each(|name| self.note(name));
         let full = before.external == MOST_EXTERNAL;
         match refusal {
             Refusal::Malformed => {
@@ -193,7 +197,10 @@ impl Coverage {
     fn answer(&mut self, before: &Watch, line: &[u8], answer: &Answer, after: &Agent) {
         let cycle = line == b"C";
         match answer.deed {
-            Deed::Taken(_) => self.taken(before, line, answer.changes.len()),
+            Deed::Taken(number) => {
+                self.note_if(number > LAST_NARROW, "T over 65,535");
+                self.taken(before, line, answer.changes.len());
+            }
             Deed::Idle => {
                 self.note("I");
                 self.note_if(after.queue().iter().any(|event| !event.served), "I past a pending event");
@@ -257,7 +264,8 @@ impl Coverage {
         self.note_if(before.external + 1 == MOST_EXTERNAL, "32 external events");
     }
 
-    fn made(&mut self, before: &Watch, id: u16, plan: usize, serves: Origin, after: &Agent) {
+    fn made(&mut self, before: &Watch, id: Number, plan: usize, serves: Origin, after: &Agent) {
+        self.note_if(id > LAST_NARROW, "M over 65,535");
         self.note(if matches!(serves, Origin::External(_)) { "M e" } else { "M g" });
         let event = after.queue().iter().find(|event| event.origin == serves);
         self.note_if(event.is_some_and(|event| !event.failed.is_empty()), "M after a failure");
@@ -270,7 +278,7 @@ impl Coverage {
         self.note_if(greedy(&plan.context, &before.beliefs, from) != Some(instance.bindings), "M that went back");
     }
 
-    fn ended(&mut self, before: &Watch, id: u16, succeeded: bool, after: &Agent) {
+    fn ended(&mut self, before: &Watch, id: Number, succeeded: bool, after: &Agent) {
         let Some((instance, height)) = before.top(id) else { return };
         let plan = &after.plans()[instance.plan];
         self.note(if succeeded { "E" } else { "F" });

@@ -1,7 +1,7 @@
 //! Images that break one of the rules for states (document 01, "State").
 
 use super::parts::{
-    active, any_instance, at_branch, become_tower, belief, external, fresh_event, from, goal, insert_belief, over, plans,
+    active, any_instance, at_branch, become_tower, belief, external, fresh_event, from, goal, insert_belief, next, over, plans,
     push_event, rename, renumber, served, some,
 };
 use super::{ACTIVE, Event, GOAL, Image, Instance, OnImage, SUSPENDED, WAITING};
@@ -34,7 +34,7 @@ pub const BROKEN: &[(&str, OnImage)] = &[
     ("held belief and its opposite", |random, image| insert_belief(random, image, opposite)),
     ("id 0", |random, image| rename(random, image, 0)),
     ("id over the instances made", |random, image| {
-        let over = over(random, image.made)?;
+        let over = over(random, image.made, image)?;
         rename(random, image, over)
     }),
     ("one id for two", |random, image| {
@@ -47,7 +47,7 @@ pub const BROKEN: &[(&str, OnImage)] = &[
     ("external number 0", |random, image| renumber(random, image, 0)),
     ("external number over those taken", |random, image| {
         fresh_event(random, image)?;
-        let over = over(random, image.taken)?;
+        let over = over(random, image.taken, image)?;
         renumber(random, image, over)
     }),
     ("one external number for two", |random, image| {
@@ -120,7 +120,7 @@ pub const BROKEN: &[(&str, OnImage)] = &[
         Some(())
     }),
     ("stack for no queued event", |random, image| {
-        image.taken = image.taken.checked_add(1)?;
+        image.taken = next(image.taken, image)?;
         some(random, &mut image.stacks)?.event = image.taken;
         Some(())
     }),
@@ -145,7 +145,7 @@ pub const BROKEN: &[(&str, OnImage)] = &[
         Some(())
     }),
     ("goal twice, in another's place", |_, image| {
-        *image = Image::small_towers(2, 1);
+        *image = Image { form: image.form, ..Image::small_towers(2, 1) };
         *image.events.last_mut()? = image.events.iter().find(|event| event.is_goal())?.clone();
         Some(())
     }),
@@ -158,7 +158,7 @@ pub const BROKEN: &[(&str, OnImage)] = &[
         Some(())
     }),
     ("goal of nobody", |random, image| {
-        image.made = image.made.checked_add(1)?;
+        image.made = next(image.made, image)?;
         let nobody = image.made;
         goal(random, image)?.number = nobody;
         Some(())
@@ -169,7 +169,7 @@ pub const BROKEN: &[(&str, OnImage)] = &[
         Some(())
     }),
     ("goal of one that can run, in another's place", |_, image| {
-        *image = Image::small_towers(2, 1);
+        *image = Image { form: image.form, ..Image::small_towers(2, 1) };
         image.stacks[1].instances[0].status = ACTIVE;
         image.events.retain(|event| !event.is_goal() || event.number != 1);
         Some(())

@@ -1,7 +1,7 @@
 //! Damaged images, one kind at a time: to the bytes, or by a code or a count that docs/IMAGE-FORMAT.md does not give.
 
 use super::parts::{any_instance, fresh_event, some};
-use super::{OnImage, Stack};
+use super::{Form, OnImage, Stack, WIDTH};
 use crate::draft::V0;
 use crate::random::Random;
 use reference::library::LARGEST_LIBRARY;
@@ -125,6 +125,11 @@ pub const CODES: &[(&str, OnImage)] = &[
         let stack = some(random, &mut image.stacks)?.clone();
         image.stacks.resize(9, stack);
         Some(())
+    }),
+    ("another width of numbers", |random, image| {
+        let any = random.below(65_536) as u16;
+        image.width = *random.pick(&[0, 8, 16, 31, 33, 64, 32 << 8, any]);
+        (image.form == Form::Wide && image.width != WIDTH).then_some(())
     }),
     ("library of 19,333 bytes", |random, image| {
         let more = random.between(1, 1_000);

@@ -10,8 +10,8 @@ use reference::state::Number;
 pub const KEPT: &[(&str, OnImage)] = &[
     ("nothing changed", |_, _| Some(())),
     ("counts raised", |random, image| {
-        image.taken = over(random, image.taken)?;
-        image.made = over(random, image.made)?;
+        image.taken = over(random, image.taken, image)?;
+        image.made = over(random, image.made, image)?;
         Some(())
     }),
     ("ids turned round", |_, image| {
@@ -80,7 +80,7 @@ pub const KEPT: &[(&str, OnImage)] = &[
         Some(())
     }),
     ("a tower of eight", |_, image| {
-        *image = Image::tower(8).with_active_tops();
+        *image = Image { form: image.form, ..Image::tower(8).with_active_tops() };
         Some(())
     }),
 ];

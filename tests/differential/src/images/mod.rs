@@ -19,6 +19,35 @@ pub const ACTIVE: u16 = 0;
 pub const WAITING: u16 = 1;
 pub const SUSPENDED: u16 = 2;
 
+/// The newest form's width of numbers, in bits.
+const WIDTH: u16 = 32;
+
+/// The forms of an image.
+#[derive(Clone, Copy, Debug, PartialEq, Eq)]
+pub enum Form {
+    /// Five bodies, numbers of 16 bits.
+    Narrow,
+    /// Six bodies, numbers of 32 bits.
+    Wide,
+}
+
+impl Form {
+    /// The last number that an event or an instance can have.
+    pub fn last_number(self) -> Number {
+        match self {
+            Form::Narrow => u16::MAX.into(),
+            Form::Wide => Number::MAX,
+        }
+    }
+
+    fn number(self, number: Number) -> Vec<u8> {
+        match self {
+            Form::Narrow => stored(&[number as u16]),
+            Form::Wide => number.to_le_bytes().to_vec(),
+        }
+    }
+}
+
 #[derive(Clone)]
 pub struct Event {
     /// External or goal, then the goal's state and branch.
@@ -56,6 +85,9 @@ pub struct Image {
     pub stacks: Vec<Stack>,
     pub taken: Number,
     pub made: Number,
+    /// The sixth body of the newest form.
+    pub width: u16,
+    pub form: Form,
 }
 
 impl Event {
@@ -72,9 +104,9 @@ impl Event {
         Event { origin, kind: event.kind as u16, literal: event.fact.stored(), failed, number }
     }
 
-    fn encode(&self) -> Vec<u8> {
+    fn encode(&self, form: Form) -> Vec<u8> {
         let front = stored(&[&self.origin[..], &[self.kind], &self.literal].concat());
-        [front, self.failed.to_le_bytes().to_vec(), stored(&[self.number])].concat()
+        [front, self.failed.to_le_bytes().to_vec(), form.number(self.number)].concat()
     }
 }
 
@@ -91,9 +123,9 @@ impl Instance {
         }
     }
 
-    fn encode(&self) -> Vec<u8> {
+    fn encode(&self, form: Form) -> Vec<u8> {
         let front = stored(&[&[self.plan, self.state, self.tried, self.status][..], &self.environment].concat());
-        [front, stored(&[self.id])].concat()
+        [front, form.number(self.id)].concat()
     }
 }
 
@@ -106,9 +138,9 @@ impl Stack {
         Stack { event, instances: stack.iter().map(Instance::of).collect() }
     }
 
-    fn encode(&self) -> Vec<u8> {
-        let front = stored(&[self.instances.len() as u16, self.event]);
-        [front, self.instances.iter().flat_map(Instance::encode).collect()].concat()
+    fn encode(&self, form: Form) -> Vec<u8> {
+        let front = [stored(&[self.instances.len() as u16]), form.number(self.event)].concat();
+        [front, self.instances.iter().flat_map(|instance| instance.encode(form)).collect()].concat()
     }
 }
 
@@ -121,17 +153,29 @@ impl Image {
             stacks: agent.stacks().iter().map(Stack::of).collect(),
             taken: agent.taken(),
             made: agent.made(),
+            width: WIDTH,
+            form: Form::Wide,
         }
     }
 
+    /// The image in the oldest form, if its numbers are small enough.
+    pub fn narrowed(self) -> Option<Self> {
+        let most = self.taken.max(self.made);
+        (most <= Form::Narrow.last_number()).then_some(Image { form: Form::Narrow, ..self })
+    }
+
     pub fn encode(&self) -> Vec<u8> {
-        let bodies = [
+        let form = self.form;
+        let mut bodies = vec![
             self.library.clone(),
             list(&self.beliefs, |literal| stored(literal)),
-            list(&self.events, Event::encode),
-            list(&self.stacks, Stack::encode),
-            stored(&[self.taken, self.made]),
+            list(&self.events, |event| event.encode(form)),
+            list(&self.stacks, |stack| stack.encode(form)),
+            [form.number(self.taken), form.number(self.made)].concat(),
         ];
+        if form == Form::Wide {
+            bodies.push(stored(&[self.width]));
+        }
         let mut offset = 4 * bodies.len();
         let mut contents = vec![];
         for body in &bodies {
@@ -170,6 +214,8 @@ impl Image {
             stacks: (0..stacks).map(stack).collect(),
             taken: stacks,
             made: stacks * height,
+            width: WIDTH,
+            form: Form::Wide,
         }
     }
 

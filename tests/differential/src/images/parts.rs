@@ -53,7 +53,7 @@ pub(super) fn fresh_event<'a>(random: &mut Random, image: &'a mut Image) -> Opti
 }
 
 pub(super) fn push_event<'a>(random: &mut Random, image: &'a mut Image) -> Option<&'a mut Event> {
-    image.taken = image.taken.checked_add(1)?;
+    image.taken = next(image.taken, image)?;
     let (kind, number) = (random.below(3) as u16, image.taken);
     let literal = [random.between(1, 22) as u16, random.between(1, 5) as u16, 0, 0];
     let place = random.between(0, image.events.len());
@@ -106,15 +106,20 @@ pub(super) fn served<'a>(random: &mut Random, image: &'a mut Image) -> Option<(&
     Some((event, plan))
 }
 
-/// Some number over a count: often the next, or the last.
-pub(super) fn over(random: &mut Random, count: Number) -> Option<Number> {
-    let (next, last) = (count.checked_add(1)?, Number::MAX);
+/// The number behind the last one that a count has given, if the image's form has one.
+pub(super) fn next(count: Number, image: &Image) -> Option<Number> {
+    count.checked_add(1).filter(|number| *number <= image.form.last_number())
+}
+
+/// Some number over a count: often the next, or the last of the image's form.
+pub(super) fn over(random: &mut Random, count: Number, image: &Image) -> Option<Number> {
+    let (next, last) = (next(count, image)?, image.form.last_number());
     let any = random.between(next as usize, last as usize) as Number;
     Some(*random.pick(&[next, last, any, any]))
 }
 
 pub(super) fn become_tower(image: &mut Image, height: usize) {
-    *image = Image::tower(height as Number);
+    *image = Image { form: image.form, ..Image::tower(height as Number) };
 }
 
 /// Gives some instance another id, and its goal too.

@@ -18,15 +18,18 @@ use std::collections::{HashMap, HashSet};
 
 pub mod parse;
 
+/// The last number that an event or an instance can have.
+const LAST_NUMBER: u32 = u32::MAX;
+
 /// An event, by where it came from.
 #[derive(Clone, Copy, Debug, PartialEq, Eq, Hash)]
 enum Origin {
-    External(u16),
+    External(u32),
     Goal(Place),
 }
 
 /// An instance, a state and a branch.
-type Place = [u16; 3];
+type Place = [u32; 3];
 
 #[derive(Clone, Copy, Debug, PartialEq, Eq)]
 enum Status {
@@ -36,32 +39,32 @@ enum Status {
 }
 
 struct Instance {
-    plan: u16,
+    plan: u32,
     serves: Origin,
     status: Status,
     /// The state, or the one before it where a goal was met, since no line says where that leads.
-    state: u16,
+    state: u32,
     stepped_unseen: bool,
     /// How many branches of that state were tried.
-    tried: u16,
+    tried: u32,
 }
 
 struct Event {
     origin: Origin,
-    failed: HashSet<u16>,
-    server: Option<u16>,
+    failed: HashSet<u32>,
+    server: Option<u32>,
 }
 
 /// What the lines so far have told.
 pub struct Ledger {
     beliefs: Vec<Literal>,
     queue: Vec<Event>,
-    live: HashMap<u16, Instance>,
-    stacks: Vec<Vec<u16>>,
-    ended: HashSet<u16>,
+    live: HashMap<u32, Instance>,
+    stacks: Vec<Vec<u32>>,
+    ended: HashSet<u32>,
     closed: HashSet<Origin>,
     tries: HashSet<Place>,
-    made_for: HashSet<(Origin, u16)>,
+    made_for: HashSet<(Origin, u32)>,
     made: u32,
     taken: u32,
     posted: u32,
@@ -124,7 +127,7 @@ impl Ledger {
         self.sums()
     }
 
-    fn refused(&self, answer: &Answer, number: u16) -> Checked {
+    fn refused(&self, answer: &Answer, number: u32) -> Checked {
         want(answer.letter == Letter::X(number) && answer.changes.is_empty(), &format!("X {number} is due"))
     }
 
@@ -134,7 +137,7 @@ impl Ledger {
         if kind > 2 || literal[1..].iter().any(|term| *term > 65_527) {
             return self.refused(answer, 5);
         }
-        if self.taken == 65_535 {
+        if self.taken == LAST_NUMBER {
             return self.refused(answer, 9);
         }
         if external == 32 {
@@ -145,7 +148,7 @@ impl Ledger {
             return self.refused(answer, 6);
         }
         self.taken += 1;
-        want(answer.letter == Letter::T(self.taken as u16), "an event is taken, by the next number")?;
+        want(answer.letter == Letter::T(self.taken), "an event is taken, by the next number")?;
         let due = match kind {
             0 if !held && against => vec![Change { add: false, literal: opposite(literal) }, Change { add: true, literal }],
             0 if !held => vec![Change { add: true, literal }],
@@ -154,11 +157,11 @@ impl Ledger {
         };
         want(answer.changes == due, "the report's own effect and no other is reported")?;
         self.changes(answer, 1)?;
-        self.queue.push(Event { origin: Origin::External(self.taken as u16), failed: HashSet::new(), server: None });
+        self.queue.push(Event { origin: Origin::External(self.taken), failed: HashSet::new(), server: None });
         Ok(())
     }
 
-    fn outcome(&mut self, id: u16, worked: bool, answer: &Answer) -> Checked {
+    fn outcome(&mut self, id: u32, worked: bool, answer: &Answer) -> Checked {
         let waiting = self.live.get_mut(&id).and_then(|instance| match instance.status {
             Status::Waiting(place) => Some((instance, place)),
             _ => None,
@@ -185,7 +188,7 @@ impl Ledger {
         if let Some(place) = self.queue.iter().position(due) {
             return self.take_up(place, answer);
         }
-        let active = |stack: &Vec<u16>| stack.last().is_some_and(|top| self.live[top].status == Status::Active);
+        let active = |stack: &Vec<u32>| stack.last().is_some_and(|top| self.live[top].status == Status::Active);
         match self.stacks.iter().position(active) {
             Some(place) => self.run(place, answer),
             None => want(answer.letter == Letter::I && answer.changes.is_empty(), "nothing to do: I is due"),
@@ -194,9 +197,9 @@ impl Ledger {
 
     fn take_up(&mut self, place: usize, answer: &Answer) -> Checked {
         let origin = self.queue[place].origin;
-        let failed = self.queue[place].failed.len() as u16;
+        let failed = self.queue[place].failed.len() as u32;
         match answer.letter {
-            Letter::X(9) => want(self.made == 65_535, "X 9 though ids are left")?,
+            Letter::X(9) => want(self.made == LAST_NUMBER, "X 9 though ids are left")?,
             Letter::N(number, count) => {
                 want(origin == Origin::External(number), "the first pending event is dropped")?;
                 want(count == failed, "as many failed plans as the journal tells")?;
@@ -223,9 +226,9 @@ impl Ledger {
         self.changes(answer, 0)
     }
 
-    fn make(&mut self, id: u16, plan: u16, place: usize) -> Checked {
+    fn make(&mut self, id: u32, plan: u32, place: usize) -> Checked {
         self.made += 1;
-        want(u32::from(id) == self.made, "the next id")?;
+        want(id == self.made, "the next id")?;
         let event = &mut self.queue[place];
         want(plan < 32 && self.made_for.insert((event.origin, plan)), "no plan is made twice for one event")?;
         event.server = Some(id);
@@ -282,7 +285,7 @@ impl Ledger {
     }
 
     /// The branch is the next one of the instance's state, and was never tried before.
-    fn tried(&mut self, top: u16, at: Place) -> Checked {
+    fn tried(&mut self, top: u32, at: Place) -> Checked {
         want(at[0] == top, "the top of the first active stack tries")?;
         want(self.tries.insert(at), "no instance tries one branch twice")?;
         let instance = self.live.get_mut(&top).ok_or("it lives")?;
@@ -296,7 +299,7 @@ impl Ledger {
         Ok(())
     }
 
-    fn end(&mut self, id: u16, answer: &Answer, below: Option<u16>) -> Checked {
+    fn end(&mut self, id: u32, answer: &Answer, below: Option<u32>) -> Checked {
         let instance = self.live.remove(&id).ok_or("only a live instance ends")?;
         want(self.ended.insert(id), "no instance ends twice")?;
         self.changes(answer, 4)?;

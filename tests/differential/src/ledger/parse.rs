@@ -1,31 +1,32 @@
 //! The lines of a journal, read by themselves.
 
 use crate::draft::Literal;
+use std::str::FromStr;
 
 /// A line in.
 #[derive(Clone, Copy, Debug, PartialEq, Eq)]
 pub enum Call {
     Report(u16, Literal),
     Cycle,
-    Outcome(u16, bool),
+    Outcome(u32, bool),
 }
 
 /// A line out, without its changes. Three numbers are an instance, a state and a branch.
 #[derive(Clone, Copy, Debug, PartialEq, Eq)]
 pub enum Letter {
-    T(u16),
+    T(u32),
     I,
-    N(u16, u16),
-    U([u16; 3], u16),
+    N(u32, u32),
+    U([u32; 3], u32),
     /// The id, the plan, whether it serves an external event, and that event or the poster.
-    M(u16, u16, bool, u16),
-    S([u16; 3], u16),
-    B([u16; 3]),
-    D([u16; 3], Literal),
-    G([u16; 3]),
-    E(u16),
-    F(u16),
-    X(u16),
+    M(u32, u32, bool, u32),
+    S([u32; 3], u32),
+    B([u32; 3]),
+    D([u32; 3], Literal),
+    G([u32; 3]),
+    E(u32),
+    F(u32),
+    X(u32),
 }
 
 #[derive(Clone, Copy, Debug, PartialEq, Eq)]
@@ -63,15 +64,22 @@ impl<'a> Words<'a> {
         self.words.next()
     }
 
-    fn digits(&self, word: &str) -> Option<u16> {
-        let plain = (1..=5).contains(&word.len()) && word.bytes().all(|byte| byte.is_ascii_digit());
+    fn digits<T: FromStr>(&self, word: &str, most: usize) -> Option<T> {
+        let plain = (1..=most).contains(&word.len()) && word.bytes().all(|byte| byte.is_ascii_digit());
         let shown = !self.printed || word == "0" || !word.starts_with('0');
         if plain && shown { word.parse().ok() } else { None }
     }
 
-    fn number(&mut self) -> Option<u16> {
+    /// A number of an event or an instance, or one that is smaller.
+    fn number(&mut self) -> Option<u32> {
         let word = self.word()?;
-        self.digits(word)
+        self.digits(word, 10)
+    }
+
+    /// A kind or a term.
+    fn stored(&mut self) -> Option<u16> {
+        let word = self.word()?;
+        self.digits(word, 5)
     }
 
     fn flag(&mut self) -> Option<bool> {
@@ -79,7 +87,7 @@ impl<'a> Words<'a> {
         if word == "1" { Some(true) } else { (word == "0").then_some(false) }
     }
 
-    fn place(&mut self) -> Option<[u16; 3]> {
+    fn place(&mut self) -> Option<[u32; 3]> {
         Some([self.number()?, self.number()?, self.number()?])
     }
 
@@ -89,8 +97,8 @@ impl<'a> Words<'a> {
             Some(rest) => (32_768, rest),
             None => (0, word.strip_prefix('+')?),
         };
-        let predicate = self.digits(predicate).filter(|predicate| *predicate <= 32_767)?;
-        Some([predicate + negative, self.number()?, self.number()?, self.number()?])
+        let predicate = self.digits(predicate, 5).filter(|predicate: &u16| *predicate <= 32_767)?;
+        Some([predicate + negative, self.stored()?, self.stored()?, self.stored()?])
     }
 }
 
@@ -98,7 +106,7 @@ impl<'a> Words<'a> {
 pub fn call(line: &[u8]) -> Option<Call> {
     let mut words = Words::new(line, false)?;
     let call = match words.word()? {
-        "P" => Call::Report(words.number()?, words.literal()?),
+        "P" => Call::Report(words.stored()?, words.literal()?),
         "C" => Call::Cycle,
         "O" => Call::Outcome(words.number()?, words.flag()?),
         _ => return None,

@@ -1,4 +1,4 @@
-//! The agent of document 01 with requests 1, 11 and 12 of document 02, replayed with its reasons.
+//! The agent of document 01 with requests 1, 5, 11 and 12 of document 02, replayed with its reasons.
 //!
 //! It answers what the proved program answers and keeps why: which plans were passed over, why a branch was missed, what an
 //! instance lost, which list action was skipped.
@@ -22,7 +22,7 @@ const MOST_STACKS: usize = 8;
 const STACK_HEIGHT: usize = 8;
 const MOST_EXTERNAL: usize = 32;
 /// The highest number of an event or an instance.
-const LAST_NUMBER: u32 = 65_535;
+pub const LAST_NUMBER: u32 = u32::MAX;
 
 /// A line in.
 #[derive(Clone, Copy, Debug, PartialEq, Eq)]

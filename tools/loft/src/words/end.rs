@@ -4,6 +4,7 @@ use super::Words;
 use crate::journal;
 use crate::library::MOST_BELIEFS;
 use crate::model::step::{Because, Deed, End, Origin, Refused, Step};
+use crate::model::LAST_NUMBER;
 use crate::replay::shown;
 
 impl Words<'_> {
@@ -59,7 +60,7 @@ impl Words<'_> {
                 (format!("a report has kind 0 (gained), 1 (lost) or 2 (told), and this one {kind}"), "mend what writes the lines")
             }
             Refused::NotGround => ("a term is over 65527, which stands for a variable".into(), "mend what writes the lines"),
-            Refused::EventsSpent => ("all 65535 event numbers are used".into(), "close this journal and begin another"),
+            Refused::EventsSpent => (format!("all {LAST_NUMBER} event numbers are used"), "close this journal and begin another"),
             Refused::QueueFull => ("32 reported events are open".into(), "cycle until one is closed, then report again"),
             Refused::TableFull(literal) => {
                 let literal = self.names.literal(literal, None);
@@ -67,7 +68,7 @@ impl Words<'_> {
                 (what, "report it again when a belief has been removed")
             }
             Refused::InstancesSpent { plan } => {
-                let what = format!("{} applies, and all 65535 instance numbers are used", self.names.plan(*plan));
+                let what = format!("{} applies, and all {LAST_NUMBER} instance numbers are used", self.names.plan(*plan));
                 (what, "close this journal and begin another")
             }
             Refused::NeverMade(id) => (format!("there is no instance {id} yet"), "mend what writes the outcomes"),

@@ -27,11 +27,11 @@ origin-branch-requires c κs = search needs
 origin-number-requires : tie.Need-origin-number-requires
 origin-number-requires c κs = search needs
 
-cast-t13 : tie.Need-cast-t13
-cast-t13 c = search needs
+cast-t14 : tie.Need-cast-t14
+cast-t14 c = search needs
 
-cast-t15 : tie.Need-cast-t15
-cast-t15 c = search needs
+cast-t16 : tie.Need-cast-t16
+cast-t16 c = search needs
 
 slice-aggregate-put-words : tie.Need-slice-aggregate-put-words
 slice-aggregate-put-words c = search needs
@@ -48,19 +48,14 @@ same-length c = search needs
 returns : tie.Need-returns
 unfolding eventBytes
 returns c =
-    let code =
-    c .before .before .before .before .before .before .before .before .before .before .before .before .before .before .origin-code .ensures in
-    let state =
-    c .before .before .before .before .before .before .before .before .before .before .before .before .before .origin-state .ensures in
-    let branch =
-    c .before .before .before .before .before .before .before .before .before .before .before .before .origin-branch .ensures in
-    let number = c .before .before .before .before .before .before .before .before .before .before .before .origin-number .ensures in
-    let e =
-    c .before .before .before .before .before .before .before .before .before .before .before .before .before .before .before .before .before .args .event in
+    let code = (c .before .before .before .before .before .before .before .before .before .before .before .before .before .before .origin-code) .ensures in
+    let state = (c .before .before .before .before .before .before .before .before .before .before .before .before .before .origin-state) .ensures in
+    let branch = (c .before .before .before .before .before .before .before .before .before .before .before .before .origin-branch) .ensures in
+    let number = (c .before .before .before .before .before .before .before .before .before .before .before .origin-number) .ensures in
+    let e = (c .before .before .before .before .before .before .before .before .before .before .before .before .before .before .before .before .before .args) .event in
     let l = e .literal in
     let tail = l .head ∷ l .first ∷ l .second ∷ l .third ∷ e .failed % 65536 ∷ e .failed / 65536 ∷ [] in
-    written (λ i. wordsBytes (code i ∷ state i ∷ branch i ∷ e .kind ∷ tail) ++ numberBytes (number i))
-    (then (c .before .before .before .before .before .before .put-words .ensures) (c .before .before .put-number .ensures))
+    written (λ i. wordsBytes (code i ∷ state i ∷ branch i ∷ e .kind ∷ tail) ++ numberBytes ((c .before .before .before .before .before .before .before .before .before .before .before .before .before .before .before .before .before .args) .form) (number i)) (then ((c .before .before .before .before .before .before .put-words) .ensures) ((c .before .before .put-number) .ensures))
 
 pub put-event-spec : {M : Type 1} → statement M
 put-event-spec =
@@ -70,8 +65,8 @@ put-event-spec =
     origin-state-requires
     origin-branch-requires
     origin-number-requires
-    cast-t13
-    cast-t15
+    cast-t14
+    cast-t16
     slice-aggregate-put-words
     put-words-requires
     put-number-requires

@@ -10,6 +10,7 @@ use Rattle.lists.proofs.ArrayLaws.{length-mapped}
 use Rattle.model.specs.State.{mostQueued}
 use Rattle.writing.specs.Writing.{Wrote}
 use Rattle.writing.proofs.WritingLaws.{then, nothing}
+use Rattle.image.specs.Form.{newest}
 use Rattle.image.specs.EventImage.{eventSize, eventBytes, eventsBytes}
 use Rattle.image.proofs.WordLaws.{next-part}
 use Rattle.image.proofs.events.put_events.Statement.{statement}
@@ -18,11 +19,10 @@ use Rattle.image.proofs.events.put_event.Reads as put-event-reads
 use Rattle.image.proofs.words.put_word.Reads as put-word-reads
 
 abbrev Inv-loop : tie.InvT-loop
-Inv-loop out₀ at n queue o₀ i₀ out o i =
-    (i ≤ n) × (length out ≡ length out₀) × Wrote (eventSize * i) out₀ out o₀ o (each eventBytes (take i queue))
+Inv-loop out₀ at form n queue o₀ i₀ out o i = (i ≤ n) × (length out ≡ length out₀) × Wrote (eventSize newest * i) out₀ out o₀ o (each (eventBytes form) (take i queue))
 
 abbrev μ-loop : tie.MeasureT-loop
-μ-loop out₀ at n queue o₀ i₀ out o i = n - i
+μ-loop out₀ at form n queue o₀ i₀ out o i = n - i
 
 cast-put-word : tie.Need-cast-put-word Inv-loop μ-loop
 cast-put-word c = search needs
@@ -50,10 +50,10 @@ loop-less c = search needs
 
 loop-again : tie.Need-loop-again Inv-loop μ-loop
 loop-again c =
-    let queue = c .before .before .before .before .before .before .before .before .before .before .before .before .args .t3 in
+    let queue = (c .before .before .before .before .before .before .before .before .before .before .before .before .args) .t4 in
     let long : length queue ≡ mostQueued = search (needs, length-mapped) in
-    let low : c .before .before .before .before .before .before .loop .i < length queue = omega arith in
-    (search needs, c .before .before .put-event .kept .0 ∙ c .before .before .before .before .before .before .loop .inv .1, next-part eventBytes eventSize queue (c .before .before .before .before .before .before .loop .i) _ low (c .before .before .before .before .before .before .loop .inv .2) (c .before .before .put-event .ensures))
+    let low : (c .before .before .before .before .before .before .loop) .i < length queue = omega arith in
+    (search needs, (c .before .before .put-event) .kept .0 ∙ (c .before .before .before .before .before .before .loop) .inv .1, next-part (eventBytes ((c .before .before .before .before .before .before .before .before .before .before .before .before .args) .form)) (eventSize newest) queue ((c .before .before .before .before .before .before .loop) .i) _ low ((c .before .before .before .before .before .before .loop) .inv .2) ((c .before .before .put-event) .ensures))
 
 same-length : tie.Need-same-length Inv-loop μ-loop
 same-length c = search needs
@@ -61,12 +61,12 @@ same-length c = search needs
 returns : tie.Need-returns Inv-loop μ-loop
 unfolding eventsBytes
 returns c =
-    let n = c .before .before .before .before .before .before .before .args .n in
-    let queue = c .before .before .before .before .before .before .before .args .t3 in
-    let last : c .before .loop .i ≡ n = omega arith in
+    let n = (c .before .before .before .before .before .before .before .args) .n in
+    let queue = (c .before .before .before .before .before .before .before .args) .t4 in
+    let last : (c .before .loop) .i ≡ n = omega arith in
     let long : length queue ≡ mostQueued = search (needs, length-mapped) in
     let size : length (take n queue) ≡ n = length-take-le n queue (omega arith) in
-    rw size (then (c .before .before .before .before .put-word .ensures) (rw last at (c .before .loop .inv .2)))
+    rw size (then ((c .before .before .before .before .put-word) .ensures) (rw last at ((c .before .loop) .inv .2)))
 
 pub put-events-spec : {M : Type 1} → statement M
 put-events-spec =

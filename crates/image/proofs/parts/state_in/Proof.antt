@@ -1,8 +1,11 @@
 -- `image::parts::state_in` meets its contract: each body where the contents say.
 use borrow.Author.Needs.{needs}
-use Prim.Native.Nat.{ℕ, min}
-use mathlib.Core.Path.{ap, _∙_}
+use native.Mathlib.Omega.{arith}
+use Prim.Native.Nat.{ℕ, _+_, min}
+use mathlib.Core.Path.{_≡_, ap, _∙_}
 use Rattle.model.specs.State.{mostQueued}
+use Rattle.image.specs.Form.{numberSize}
+use Rattle.image.specs.Words.{numberAt}
 use Rattle.image.proofs.PartLaws.{read-state}
 use borrow.Author.Needs.{needs}
 use Rattle.image.proofs.parts.state_in.Statement.{statement}
@@ -71,6 +74,9 @@ stacks-at-requires c κs = search needs
 number-at-requires : tie.Need-number-at-requires
 number-at-requires c κs = search needs
 
+numbers-size-requires : tie.Need-numbers-size-requires
+numbers-size-requires c κs = search needs
+
 add-number-at : tie.Need-add-number-at
 add-number-at c = search needs
 
@@ -79,8 +85,11 @@ number-at-requires-2 c κs = search needs
 
 returns : tie.Need-returns
 returns c =
-    read-state (c .before .before .before .before .before .before .before .before .before .before .before .before .before .args .image .now) _ _ _ _ _ (c .before .before .before .before .before .before .before .before .before .before .before .u16-at .ensures) (c .before .before .before .before .before .before .before .before .before .before .u16-at2 .ensures) (c .before .before .before .before .before .before .before .before .before .u16-at3 .ensures) (c .before .before .before .before .before .before .before .before .u16-at4 .ensures) (c .before .before .before .before .before .before .before .beliefs-at .ensures)
-    (c .before .before .before .before .before .least .ensures ∙ ap (λ (k : ℕ). min k mostQueued) (c .before .before .before .before .before .before .u16-at5 .ensures)) (c .before .before .before .before .events-at .ensures) (c .before .before .before .stacks-at .ensures) (c .before .number-at .ensures) (c .number-at2 .ensures)
+    let a = (c .before .before .before .before .before .before .before .before .before .before .before .before .before .before .args) in
+    let there : (c .before .before .before .before .before .before .before .before .before .u16-at4) .result + (c .before .numbers-size) .result ≡ (c .before .before .before .before .before .before .before .before .before .u16-at4) .result + numberSize (a .form) = omega (arith, (c .before .numbers-size) .ensures .0) in
+    read-state (a .form) (a .image .now) _ _ _ _ _ ((c .before .before .before .before .before .before .before .before .before .before .before .before .u16-at) .ensures) ((c .before .before .before .before .before .before .before .before .before .before .before .u16-at2) .ensures) ((c .before .before .before .before .before .before .before .before .before .before .u16-at3) .ensures) ((c .before .before .before .before .before .before .before .before .before .u16-at4) .ensures) ((c .before .before .before .before .before .before .before .before .beliefs-at) .ensures)
+    ((c .before .before .before .before .before .before .least) .ensures ∙ ap (λ (k : ℕ). min k mostQueued) ((c .before .before .before .before .before .before .before .u16-at5) .ensures)) ((c .before .before .before .before .before .events-at) .ensures) ((c .before .before .before .before .stacks-at) .ensures) ((c .before .before .number-at) .ensures)
+    ((c .number-at2) .ensures ∙ ap (numberAt (a .form) (a .image .now)) there)
 
 pub state-in-spec : {M : Type 1} → statement M
 state-in-spec =
@@ -105,6 +114,7 @@ state-in-spec =
     events-at-requires
     stacks-at-requires
     number-at-requires
+    numbers-size-requires
     add-number-at
     number-at-requires-2
     returns)

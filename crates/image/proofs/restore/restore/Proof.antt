@@ -12,6 +12,9 @@ use Rattle.image.proofs.parts.state_in.Reads as state-in-reads
 use Rattle.image.proofs.whole.is_image_of.Reads as is-image-of-reads
 use Rattle.load.proofs.refused.Reads as refused-reads
 
+form-in-requires : tie.Need-form-in-requires
+form-in-requires c κs = search needs
+
 library-in-requires : tie.Need-library-in-requires
 library-in-requires c κs = search needs
 
@@ -26,12 +29,13 @@ refused-requires c κs = search needs
 
 returns : tie.Need-returns
 returns c =
-    let test =
-    image-test (c .before .before .before .before .before .before .before .args .image .now)
-    (c .before .before .before .before .before .library-in .result) (c .before .before .before .before .state-in .result)
-    (c .before .before .before .before .before .library-in .ensures) (c .before .before .before .before .state-in .ensures) in
-    refused-image (c .before .before .before .before .before .before .before .args .image .now) (c .refused .result)
-    (sym test ∙ sym (c .before .before .is-image-of .ensures) ∙ not-true _ (c .before .if1 .taken)) (c .refused .ensures)
+    let image = (c .before .before .before .before .before .before .before .before .args) .image .now in
+    let form = (c .before .before .before .before .before .before .form-in) .result in
+    let same = (c .before .before .before .before .before .before .form-in) .ensures in
+    let copy = (c .before .before .before .before .before .library-in) in
+    let state = (c .before .before .before .before .state-in) in
+    let first = image-test image form same (copy .result) (state .result) (copy .ensures) (state .ensures) in
+    refused-image image ((c .refused) .result) (sym first ∙ sym ((c .before .before .is-image-of) .ensures) ∙ not-true _ ((c .before .if1) .taken)) ((c .refused) .ensures)
 
 slice-aggregate-is-well-formed : tie.Need-slice-aggregate-is-well-formed
 slice-aggregate-is-well-formed c = search needs
@@ -44,48 +48,33 @@ refused-requires-2 c κs = search needs
 
 returns-2 : tie.Need-returns-2
 returns-2 c =
-    let first =
-    image-test (c .before .before .before .before .before .before .before .before .before .before .args .image .now)
-    (c .before .before .before .before .before .before .before .before .library-in .result)
-    (c .before .before .before .before .before .before .before .state-in .result)
-    (c .before .before .before .before .before .before .before .before .library-in .ensures)
-    (c .before .before .before .before .before .before .before .state-in .ensures) in
-    let second =
-    formed-test (c .before .before .before .before .before .before .before .before .before .before .args .image .now)
-    (c .before .before .before .before .before .before .before .before .library-in .result)
-    (c .before .before .before .before .before .before .before .state-in .result)
-    (c .before .before .before .before .before .before .before .before .library-in .ensures)
-    (c .before .before .before .before .before .before .before .state-in .ensures) in
-    refused-formed (c .before .before .before .before .before .before .before .before .before .before .args .image .now)
-    (c .refused2 .result) (sym first ∙ sym (c .before .before .before .before .before .is-image-of .ensures) ∙ not-false _ (c .before .before .before .before .if1 .left))
-    (sym second ∙ sym (c .before .before .is-well-formed .ensures) ∙ not-true _ (c .before .if2 .taken)) (c .refused2 .ensures)
+    let image = (c .before .before .before .before .before .before .before .before .before .before .before .args) .image .now in
+    let form = (c .before .before .before .before .before .before .before .before .before .form-in) .result in
+    let same = (c .before .before .before .before .before .before .before .before .before .form-in) .ensures in
+    let copy = (c .before .before .before .before .before .before .before .before .library-in) in
+    let state = (c .before .before .before .before .before .before .before .state-in) in
+    let first = image-test image form same (copy .result) (state .result) (copy .ensures) (state .ensures) in
+    let second = formed-test image form same (copy .result) (state .result) (copy .ensures) (state .ensures) in
+    refused-formed image ((c .refused2) .result) (sym first ∙ sym ((c .before .before .before .before .before .is-image-of) .ensures) ∙ not-false _ ((c .before .before .before .before .if1) .left))
+    (sym second ∙ sym ((c .before .before .is-well-formed) .ensures) ∙ not-true _ ((c .before .if2) .taken)) ((c .refused2) .ensures)
 
 returns-3 : tie.Need-returns-3
 returns-3 c =
-    let first =
-    image-test (c .before .before .before .before .before .before .before .before .before .args .image .now)
-    (c .before .before .before .before .before .before .before .library-in .result)
-    (c .before .before .before .before .before .before .state-in .result)
-    (c .before .before .before .before .before .before .before .library-in .ensures)
-    (c .before .before .before .before .before .before .state-in .ensures) in
-    let second =
-    formed-test (c .before .before .before .before .before .before .before .before .before .args .image .now)
-    (c .before .before .before .before .before .before .before .library-in .result)
-    (c .before .before .before .before .before .before .state-in .result)
-    (c .before .before .before .before .before .before .before .library-in .ensures)
-    (c .before .before .before .before .before .before .state-in .ensures) in
-    restored (c .before .before .before .before .before .before .before .before .before .args .image .now) _
-    (c .before .before .before .before .before .before .before .library-in .result)
-    (c .before .before .before .before .before .before .state-in .result)
-    (c .before .before .before .before .before .before .before .library-in .ensures)
-    (c .before .before .before .before .before .before .state-in .ensures)
-    (sym first ∙ sym (c .before .before .before .before .is-image-of .ensures) ∙ not-false _ (c .before .before .before .if1 .left))
-    (sym second ∙ sym (c .before .is-well-formed .ensures) ∙ not-false _ (c .if2 .left)) refl
+    let image = (c .before .before .before .before .before .before .before .before .before .before .args) .image .now in
+    let form = (c .before .before .before .before .before .before .before .before .form-in) .result in
+    let same = (c .before .before .before .before .before .before .before .before .form-in) .ensures in
+    let copy = (c .before .before .before .before .before .before .before .library-in) in
+    let state = (c .before .before .before .before .before .before .state-in) in
+    let first = image-test image form same (copy .result) (state .result) (copy .ensures) (state .ensures) in
+    let second = formed-test image form same (copy .result) (state .result) (copy .ensures) (state .ensures) in
+    restored image _ form same (copy .result) (state .result) (copy .ensures) (state .ensures)
+    (sym first ∙ sym ((c .before .before .before .before .is-image-of) .ensures) ∙ not-false _ ((c .before .before .before .if1) .left)) (sym second ∙ sym ((c .before .is-well-formed) .ensures) ∙ not-false _ ((c .if2) .left)) refl
 
 pub restore-spec : {M : Type 1} → statement M
 restore-spec =
     tie.close
     (tie.spec
+    form-in-requires
     library-in-requires
     state-in-requires
     is-image-of-requires

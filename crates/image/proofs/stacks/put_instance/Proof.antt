@@ -29,12 +29,12 @@ slice-aggregate-put-words-2 c = search needs
 
 put-words-requires-2 : tie.Need-put-words-requires-2
 put-words-requires-2 c κs =
-    let eight : length (c .before .before .before .before .before .before .before .before .before .before .before .args .x .env .terms) ≡ 8 = search (needs, length-mapped) in
+    let eight : length ((c .before .before .before .before .before .before .before .before .before .before .before .args) .x .env .terms) ≡ 8 = search (needs, length-mapped) in
     search needs
 
 put-number-requires : tie.Need-put-number-requires
 put-number-requires c κs =
-    let eight : length (c .before .before .before .before .before .before .before .before .before .before .before .before .before .before .before .args .x .env .terms) ≡ 8 = search (needs, length-mapped) in
+    let eight : length ((c .before .before .before .before .before .before .before .before .before .before .before .before .before .before .before .args) .x .env .terms) ≡ 8 = search (needs, length-mapped) in
     search needs
 
 same-length : tie.Need-same-length
@@ -43,13 +43,11 @@ same-length c = search needs
 returns : tie.Need-returns
 unfolding instanceBytes
 returns c =
-    let eight : length (c .before .before .before .before .before .before .before .before .before .before .before .before .before .before .before .before .before .before .args .x .env .terms) ≡ 8 = search (needs, length-mapped) in
-    let x =
-    c .before .before .before .before .before .before .before .before .before .before .before .before .before .before .before .before .before .before .args .x in
-    let code =
-    c .before .before .before .before .before .before .before .before .before .before .before .before .before .before .status-code .ensures in
-    written (λ i. wordsBytes (x .plan ∷ x .state ∷ x .tried ∷ code i ∷ []) ++ (wordsBytes (x .env .terms) ++ numberBytes (x .id)))
-    (widen (omega arith) (then (c .before .before .before .before .before .before .before .before .before .before .before .put-words .ensures) (then (c .before .before .before .before .before .before .put-words2 .ensures) (c .before .before .put-number .ensures))))
+    let eight : length ((c .before .before .before .before .before .before .before .before .before .before .before .before .before .before .before .before .before .before .args) .x .env .terms) ≡ 8 = search (needs, length-mapped) in
+    let x = (c .before .before .before .before .before .before .before .before .before .before .before .before .before .before .before .before .before .before .args) .x in
+    let code = (c .before .before .before .before .before .before .before .before .before .before .before .before .before .before .status-code) .ensures in
+    written (λ i. wordsBytes (x .plan ∷ x .state ∷ x .tried ∷ code i ∷ []) ++ (wordsBytes (x .env .terms) ++ numberBytes ((c .before .before .before .before .before .before .before .before .before .before .before .before .before .before .before .before .before .before .args) .form) (x .id)))
+    (widen (omega arith) (then ((c .before .before .before .before .before .before .before .before .before .before .before .put-words) .ensures) (then ((c .before .before .before .before .before .before .put-words2) .ensures) ((c .before .before .put-number) .ensures))))
 
 pub put-instance-spec : {M : Type 1} → statement M
 put-instance-spec =

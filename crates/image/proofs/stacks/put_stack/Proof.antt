@@ -9,6 +9,7 @@ use Rattle.lists.proofs.ArrayLaws.{length-mapped}
 use Rattle.state.specs.View.{mostBelow}
 use Rattle.writing.specs.Writing.{Wrote}
 use Rattle.writing.proofs.WritingLaws.{then, widen, nothing, written}
+use Rattle.image.specs.Form.{newest}
 use Rattle.image.specs.StackImage.{instanceSize, instanceBytes}
 use Rattle.image.proofs.WordLaws.{next-part}
 use Rattle.image.proofs.RowLaws.{stack-bytes}
@@ -20,11 +21,10 @@ use Rattle.image.proofs.words.put_word.Reads as put-word-reads
 use Rattle.state.proofs.stacks.depth_of.Reads as depth-of-reads
 
 abbrev Inv-loop : tie.InvT-loop
-Inv-loop out₀ at stack n top head o₀ i₀ out o i =
-    (i ≤ n) × (length out ≡ length out₀) × Wrote (instanceSize * i) out₀ out o₀ o (each instanceBytes (take i (stack .below)))
+Inv-loop out₀ at form stack n top head o₀ i₀ out o i = (i ≤ n) × (length out ≡ length out₀) × Wrote (instanceSize newest * i) out₀ out o₀ o (each (instanceBytes form) (take i (stack .below)))
 
 abbrev μ-loop : tie.MeasureT-loop
-μ-loop out₀ at stack n top head o₀ i₀ out o i = n - i
+μ-loop out₀ at form stack n top head o₀ i₀ out o i = n - i
 
 depth-of-requires : tie.Need-depth-of-requires Inv-loop μ-loop
 depth-of-requires c κs = search needs
@@ -61,11 +61,10 @@ loop-less c = search needs
 
 loop-again : tie.Need-loop-again Inv-loop μ-loop
 loop-again c =
-    let xs =
-    c .before .before .before .before .before .before .before .before .before .before .before .before .before .before .before .before .before .before .args .t3 .below in
-    let seven : length (c .before .before .before .before .before .before .before .before .before .before .before .before .before .before .before .before .before .before .args .t3 .below) ≡ mostBelow = search (needs, length-mapped) in
-    let low : c .before .before .before .before .before .before .loop .i < length xs = omega arith in
-    (search needs, c .before .before .put-instance .kept .0 ∙ c .before .before .before .before .before .before .loop .inv .1, next-part instanceBytes instanceSize xs (c .before .before .before .before .before .before .loop .i) _ low (c .before .before .before .before .before .before .loop .inv .2) (c .before .before .put-instance .ensures))
+    let xs = (c .before .before .before .before .before .before .before .before .before .before .before .before .before .before .before .before .before .before .args) .t4 .below in
+    let seven : length ((c .before .before .before .before .before .before .before .before .before .before .before .before .before .before .before .before .before .before .args) .t4 .below) ≡ mostBelow = search (needs, length-mapped) in
+    let low : (c .before .before .before .before .before .before .loop) .i < length xs = omega arith in
+    (search needs, (c .before .before .put-instance) .kept .0 ∙ (c .before .before .before .before .before .before .loop) .inv .1, next-part (instanceBytes ((c .before .before .before .before .before .before .before .before .before .before .before .before .before .before .before .before .before .before .args) .form)) (instanceSize newest) xs ((c .before .before .before .before .before .before .loop) .i) _ low ((c .before .before .before .before .before .before .loop) .inv .2) ((c .before .before .put-instance) .ensures))
 
 put-instance-requires-2 : tie.Need-put-instance-requires-2 Inv-loop μ-loop
 put-instance-requires-2 c κs = search needs
@@ -75,15 +74,12 @@ same-length c = search needs
 
 returns : tie.Need-returns Inv-loop μ-loop
 returns c =
-    let stack =
-    c .before .before .before .before .before .before .before .before .before .before .before .before .before .before .before .before .before .args .t3 in
-    let seven : length (c .before .before .before .before .before .before .before .before .before .before .before .before .before .before .before .before .before .args .t3 .below) ≡ mostBelow = search (needs, length-mapped) in
-    let n =
-    c .before .before .before .before .before .before .before .before .before .before .before .before .before .before .before .depth-of .result in
-    let last : c .before .before .before .before .before .loop .i ≡ n = omega arith in
-    let instances =
-    then (rw last at (c .before .before .before .before .before .loop .inv .2)) (c .before .before .put-instance2 .ensures) in
-    written (stack-bytes stack n (c .before .before .before .before .before .before .before .before .before .before .before .before .before .before .before .depth-of .ensures) seven) (widen (omega arith) (then (c .before .before .before .before .before .before .before .before .before .before .before .before .put-word .ensures) (then (c .before .before .before .before .before .before .before .before .put-number .ensures) instances)))
+    let stack = (c .before .before .before .before .before .before .before .before .before .before .before .before .before .before .before .before .before .args) .t4 in
+    let seven : length ((c .before .before .before .before .before .before .before .before .before .before .before .before .before .before .before .before .before .args) .t4 .below) ≡ mostBelow = search (needs, length-mapped) in
+    let n = (c .before .before .before .before .before .before .before .before .before .before .before .before .before .before .before .depth-of) .result in
+    let last : (c .before .before .before .before .before .loop) .i ≡ n = omega arith in
+    let instances = then (rw last at ((c .before .before .before .before .before .loop) .inv .2)) ((c .before .before .put-instance2) .ensures) in
+    written (stack-bytes ((c .before .before .before .before .before .before .before .before .before .before .before .before .before .before .before .before .before .args) .form) stack n ((c .before .before .before .before .before .before .before .before .before .before .before .before .before .before .before .depth-of) .ensures) seven) (widen (omega arith) (then ((c .before .before .before .before .before .before .before .before .before .before .before .before .put-word) .ensures) (then ((c .before .before .before .before .before .before .before .before .put-number) .ensures) instances)))
 
 pub put-stack-spec : {M : Type 1} → statement M
 put-stack-spec =

@@ -13,6 +13,7 @@ use Rattle.state.specs.declared.Stack.{Stack}
 use Rattle.state.specs.View.{mostBelow, viewStack}
 use Rattle.writing.specs.Writing.{Wrote}
 use Rattle.writing.proofs.WritingLaws.{then, widen, nothing}
+use Rattle.image.specs.Form.{newest}
 use Rattle.image.specs.StackImage.{stackSize, stackBytes, stacksBytes}
 use Rattle.image.proofs.WordLaws.{next-part}
 use Rattle.image.proofs.RowLaws.{each-map}
@@ -22,12 +23,10 @@ use Rattle.image.proofs.stacks.put_stack.Reads as put-stack-reads
 use Rattle.image.proofs.words.put_word.Reads as put-word-reads
 
 abbrev Inv-loop : tie.InvT-loop
-Inv-loop out₀ at n stacks o₀ i₀ out o i =
-    (i ≤ n) × (length out ≡ length out₀) × Wrote (stackSize mostBelow * i) out₀ out o₀ o
-    (each (λ (stack : Stack). stackBytes (viewStack stack)) (take i stacks))
+Inv-loop out₀ at form n stacks o₀ i₀ out o i = (i ≤ n) × (length out ≡ length out₀) × Wrote (stackSize newest mostBelow * i) out₀ out o₀ o (each (λ (stack : Stack). stackBytes form (viewStack stack)) (take i stacks))
 
 abbrev μ-loop : tie.MeasureT-loop
-μ-loop out₀ at n stacks o₀ i₀ out o i = n - i
+μ-loop out₀ at form n stacks o₀ i₀ out o i = n - i
 
 cast-put-word : tie.Need-cast-put-word Inv-loop μ-loop
 cast-put-word c = search needs
@@ -55,11 +54,11 @@ loop-less c = search needs
 
 loop-again : tie.Need-loop-again Inv-loop μ-loop
 loop-again c =
-    let stacks = c .before .before .before .before .before .before .before .before .before .before .before .before .args .t3 in
+    let stacks = (c .before .before .before .before .before .before .before .before .before .before .before .before .args) .t4 in
     let long : length stacks ≡ mostStacks = search (needs, length-mapped) in
-    let low : c .before .before .before .before .before .before .loop .i < length stacks = omega arith in
-    let write : Stack → List ℕ = λ stack. stackBytes (viewStack stack) in
-    (search needs, c .before .before .put-stack .kept .0 ∙ c .before .before .before .before .before .before .loop .inv .1, next-part write (stackSize mostBelow) stacks (c .before .before .before .before .before .before .loop .i) _ low (c .before .before .before .before .before .before .loop .inv .2) (c .before .before .put-stack .ensures))
+    let low : (c .before .before .before .before .before .before .loop) .i < length stacks = omega arith in
+    let write : Stack → List ℕ = λ stack. stackBytes ((c .before .before .before .before .before .before .before .before .before .before .before .before .args) .form) (viewStack stack) in
+    (search needs, (c .before .before .put-stack) .kept .0 ∙ (c .before .before .before .before .before .before .loop) .inv .1, next-part write (stackSize newest mostBelow) stacks ((c .before .before .before .before .before .before .loop) .i) _ low ((c .before .before .before .before .before .before .loop) .inv .2) ((c .before .before .put-stack) .ensures))
 
 same-length : tie.Need-same-length Inv-loop μ-loop
 same-length c = search needs
@@ -67,13 +66,12 @@ same-length c = search needs
 returns : tie.Need-returns Inv-loop μ-loop
 unfolding stacksBytes
 returns c =
-    let n = c .before .before .before .before .before .before .before .args .n in
-    let stacks = c .before .before .before .before .before .before .before .args .t3 in
-    let last : c .before .loop .i ≡ n = omega arith in
+    let n = (c .before .before .before .before .before .before .before .args) .n in
+    let stacks = (c .before .before .before .before .before .before .before .args) .t4 in
+    let last : (c .before .loop) .i ≡ n = omega arith in
     let long : length stacks ≡ mostStacks = search (needs, length-mapped) in
     let size : length (map viewStack (take n stacks)) ≡ n = length-map (take n stacks) viewStack ∙ length-take-le n stacks (omega arith) in
-    rw (size, each-map stackBytes viewStack (take n stacks))
-    (widen (omega arith) (then (c .before .before .before .before .put-word .ensures) (rw last at (c .before .loop .inv .2))))
+    rw (size, each-map (stackBytes ((c .before .before .before .before .before .before .before .args) .form)) viewStack (take n stacks)) (widen (omega arith) (then ((c .before .before .before .before .put-word) .ensures) (rw last at ((c .before .loop) .inv .2))))
 
 pub put-stacks-spec : {M : Type 1} → statement M
 put-stacks-spec =

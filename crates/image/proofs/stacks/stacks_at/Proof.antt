@@ -12,6 +12,7 @@ use Rattle.lists.specs.Search.{all}
 use Rattle.model.specs.State.{mostStacks}
 use Rattle.state.specs.declared.Stack.{Stack}
 use Rattle.state.specs.View.{mostBelow, viewStack}
+use Rattle.image.specs.Form.{newest}
 use Rattle.image.specs.Words.{wordSize}
 use Rattle.image.specs.Rows.{row, rowEnd}
 use Rattle.image.specs.StackImage.{stackSize, stackAt, stackSizeAt, stacksAt}
@@ -23,14 +24,13 @@ use Rattle.image.proofs.words.least.Reads as least-reads
 use Rattle.library.proofs.bytes.u16_at.Reads as u16-at-reads
 
 abbrev Inv-loop : tie.InvT-loop
-Inv-loop image at count items₀ o₀ i₀ items o i =
-    (i ≤ count) × (length items ≡ mostStacks) × (o ≡ rowEnd (stackSizeAt image) i (at + wordSize)) ×
-    (o ≤ at + wordSize + stackSize mostBelow * i)
-    × (map viewStack (take i items) ≡ row (stackAt image) (stackSizeAt image) i (at + wordSize))
+Inv-loop image at form count items₀ o₀ i₀ items o i =
+    (i ≤ count) × (length items ≡ mostStacks) × (o ≡ rowEnd (stackSizeAt form image) i (at + wordSize)) × (o ≤ at + wordSize + stackSize newest mostBelow * i)
+    × (map viewStack (take i items) ≡ row (stackAt form image) (stackSizeAt form image) i (at + wordSize))
     × (all (λ (stack : Stack). leb (stack .depth) mostBelow) (take i items) ≡ true)
 
 abbrev μ-loop : tie.MeasureT-loop
-μ-loop image at count items₀ o₀ i₀ items o i = count - i
+μ-loop image at form count items₀ o₀ i₀ items o i = count - i
 
 u16-at-requires : tie.Need-u16-at-requires Inv-loop μ-loop
 u16-at-requires c κs = search needs
@@ -63,17 +63,11 @@ mul-items c = search needs
 array-set-from-items : tie.Need-array-set-from-items Inv-loop μ-loop
 array-set-from-items c = search needs
 
+stack-size-requires : tie.Need-stack-size-requires Inv-loop μ-loop
+stack-size-requires c κs = (c .stack-at2) .ensures .low
+
 add-o-2 : tie.Need-add-o-2 Inv-loop μ-loop
-add-o-2 c = record { fits = omega (arith, c .stack-at2 .ensures .low) }
-
-mul-o : tie.Need-mul-o Inv-loop μ-loop
-mul-o c = record { fits = omega (arith, c .before .stack-at2 .ensures .low) }
-
-add-o-3 : tie.Need-add-o-3 Inv-loop μ-loop
-add-o-3 c = record { fits = omega (arith, c .before .stack-at2 .ensures .low) }
-
-add-o-4 : tie.Need-add-o-4 Inv-loop μ-loop
-add-o-4 c = search needs
+add-o-2 c = record { fits = omega (arith, (c .stack-size) .ensures .1) }
 
 add-i : tie.Need-add-i Inv-loop μ-loop
 add-i c = search needs
@@ -83,17 +77,18 @@ loop-less c = search needs
 
 loop-again : tie.Need-loop-again Inv-loop μ-loop
 loop-again c =
-    let image = c .before .before .before .before .before .before .before .before .args .image .now in
-    let at = c .before .before .before .before .before .before .before .before .args .at + wordSize in
+    let form = (c .before .before .before .before .before .before .before .before .args) .form in
+    let image = (c .before .before .before .before .before .before .before .before .args) .image .now in
+    let at = (c .before .before .before .before .before .before .before .before .args) .at + wordSize in
     let loop = (c .before .before .before .loop) in
     let got = (c .before .stack-at2) in
+    let size = (c .stack-size) in
     let low : loop .i < length (loop .items) = omega arith in (
       search needs,
       length-set (loop .items) (loop .i) (got .result) ∙ loop .inv .1,
-      end-more image at (loop .i) (loop .o) (got .result .depth) (loop .inv .2) (got .ensures .depth),
-      omega (arith, got .ensures .low),
-      read-more (stackAt image) (stackSizeAt image) at (loop .items) (loop .i) (got .result) low
-          (got .ensures .means ∙ ap (stackAt image) (loop .inv .2)) (loop .inv .4),
+      ap (λ (n : ℕ). loop .o + n) (size .ensures .0) ∙ end-more form image at (loop .i) (loop .o) (got .result .depth) (loop .inv .2) (got .ensures .depth),
+      omega (arith, size .ensures .1),
+      read-more (stackAt form image) (stackSizeAt form image) at (loop .items) (loop .i) (got .result) low (got .ensures .means ∙ ap (stackAt form image) (loop .inv .2)) (loop .inv .4),
       depths-more (loop .items) (loop .i) (got .result) low (le-leb (got .result .depth) mostBelow (got .ensures .low)) (loop .inv .5),
     )
 
@@ -101,11 +96,10 @@ returns : tie.Need-returns Inv-loop μ-loop
 unfolding stacksAt
 returns c =
     let loop = (c .before .loop) in
-    let n = c .before .before .before .least .result in
+    let n = (c .before .before .before .least) .result in
     let last : loop .i ≡ n = omega arith in
-    let size =
-    c .before .before .before .least .ensures ∙ ap (λ (k : ℕ). min k mostStacks) (c .before .before .before .before .u16-at .ensures) in
-    record { few = omega (arith, c .before .before .before .least .ensures); means = rw (← size, ← last) (loop .inv .4); depths = rw (← last) (loop .inv .5) }
+    let size = (c .before .before .before .least) .ensures ∙ ap (λ (k : ℕ). min k mostStacks) ((c .before .before .before .before .u16-at) .ensures) in
+    record { few = omega (arith, (c .before .before .before .least) .ensures); means = rw (← size, ← last) (loop .inv .4); depths = rw (← last) (loop .inv .5) }
 
 pub stacks-at-spec : {M : Type 1} → statement M
 stacks-at-spec =
@@ -123,10 +117,8 @@ stacks-at-spec =
     stack-at-requires-2
     mul-items
     array-set-from-items
+    stack-size-requires
     add-o-2
-    mul-o
-    add-o-3
-    add-o-4
     add-i
     loop-less
     loop-again

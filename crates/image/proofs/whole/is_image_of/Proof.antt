@@ -18,30 +18,28 @@ array-share-prefix-library c = search needs
 
 slice-aggregate-own : tie.Need-slice-aggregate-own
 slice-aggregate-own c =
-    let long : length (c .before .before .args .t2) ≡ mostBytes = search (needs, length-mapped) in
-    sym (length-take-le (c .before .before .args .size) (c .before .before .args .t2) (omega (arith, (c .before .before .pre))))
+    let long : length ((c .before .before .args) .t3) ≡ mostBytes = search (needs, length-mapped) in
+    sym (length-take-le ((c .before .before .args) .size) ((c .before .before .args) .t3) (omega (arith, (c .before .before .pre))))
 
 slice-aggregate-write-image : tie.Need-slice-aggregate-write-image
 slice-aggregate-write-image c = search needs
 
 write-image-requires : tie.Need-write-image-requires
 write-image-requires c κs =
-    let long : length (c .before .before .before .args .t2) ≡ mostBytes = search (needs, length-mapped) in
-    (omega arith, omega (arith, length-take-le (c .before .before .before .args .size) (c .before .before .before .args .t2) (omega (arith, (c .before .before .before .pre))), (c .before .before .before .pre)))
+    let long : length ((c .before .before .before .args) .t3) ≡ mostBytes = search (needs, length-mapped) in
+    (omega arith, omega (arith, length-take-le ((c .before .before .before .args) .size) ((c .before .before .before .args) .t3) (omega (arith, (c .before .before .before .pre))), (c .before .before .before .pre)))
 
 array-share-prefix-scratch : tie.Need-array-share-prefix-scratch
 array-share-prefix-scratch c = search needs
 
 slice-aggregate-written : tie.Need-slice-aggregate-written
-slice-aggregate-written c = sym (length-take-le _ _ (c .before .before .write-image .ensures .room))
+slice-aggregate-written c = sym (length-take-le _ _ ((c .before .before .write-image) .ensures .room))
 
 is-same-requires : tie.Need-is-same-requires
 is-same-requires c κs = search needs
 
 returns : tie.Need-returns
-returns c =
-    c .is-same .ensures ∙ ap (sameBytes (c .before .before .before .before .before .before .before .args .image .now))
-    (c .before .before .before .write-image .ensures .image)
+returns c = (c .is-same) .ensures ∙ ap (sameBytes ((c .before .before .before .before .before .before .before .args) .image .now)) ((c .before .before .before .write-image) .ensures .image)
 
 pub is-image-of-spec : {M : Type 1} → statement M
 is-image-of-spec =

@@ -1,8 +1,8 @@
--- `printing::put_count` meets its contract: a space, then the number.
+-- `printing::put_field` meets its contract: a space, then the number.
 use borrow.Author.Needs.{needs}
 use Rattle.writing.proofs.WritingLaws.{then}
-use Rattle.printing.proofs.put_count.Statement.{statement}
-use Rattle.printing.proofs.put_count.Tie as tie
+use Rattle.printing.proofs.put_field.Statement.{statement}
+use Rattle.printing.proofs.put_field.Tie as tie
 
 put-requires : tie.Need-put-requires
 put-requires c κs = search needs
@@ -16,5 +16,5 @@ same-length c = search needs
 returns : tie.Need-returns
 returns c = then ((c .before .before .before .before .before .before .put) .ensures) ((c .before .before .put-wide) .ensures)
 
-pub put-count-spec : {M : Type 1} → statement M
-put-count-spec = tie.close (tie.spec put-requires put-wide-requires same-length returns)
+pub put-field-spec : {M : Type 1} → statement M
+put-field-spec = tie.close (tie.spec put-requires put-wide-requires same-length returns)
