@@ -10,7 +10,7 @@ folder=$(mktemp -d)
 trap 'rm -rf "$folder"' EXIT
 cd "$folder"
 patience=10
-usage='usage: canarystand [shift | endings PLAN N]'
+usage='usage: canarystand [shift | board | endings PLAN N]'
 passed=0
 
 # holds OUT ERR WORD..: with these words the program writes this and says this.
@@ -53,6 +53,9 @@ holds '' "$usage" ' shift'
 holds '' "$usage" shift ''
 holds '' "$usage" shift shift
 holds '' "$usage" shift 0 1
+holds '' "$usage" boards
+holds '' "$usage" board ''
+holds '' "$usage" board 0
 rm library image
 
 cp "$library" library

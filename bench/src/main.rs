@@ -13,7 +13,7 @@ use std::process::ExitCode;
 const COUNTED_LINES: usize = 20_000;
 
 /// The words that make a program start from an image.
-const MODES: [&str; 1] = ["shift"];
+const MODES: [&str; 2] = ["shift", "board"];
 
 /// What one program took for one journal.
 #[derive(Clone, Copy)]
@@ -72,9 +72,9 @@ impl Bench {
         self.images()
     }
 
-    /// What the modes cost that start from an image: a shift without lines restores an agent and saves it again.
+    /// What the modes cost that start from an image: a shift without lines restores an agent and saves it again, the board shows it.
     fn images(&self) -> Measured<()> {
-        println!("\n### A shift without lines\n");
+        println!("\n### A shift without lines, and the board\n");
         println!("| Mode | Image | Bytes | Reference ms | Proved ms | Ratio | Reference Minstr | Proved Minstr | Ratio |");
         println!("|---|---|---:|---:|---:|---:|---:|---:|---:|");
         for mode in MODES {

@@ -6,7 +6,8 @@
 //!
 //! A library of bytes becomes a [`library::Library`] of decoded plans; an [`agent::Agent`] made from it takes reports,
 //! cycles and outcomes; a [`journal::Journal`] reads these calls as lines and writes a line for each. [`image::save`] and
-//! [`image::restore`] carry an agent over as bytes. [`endings::Endings`] counts how the body of a plan may end.
+//! [`image::restore`] carry an agent over as bytes, [`board::page`] shows its live instances. [`endings::Endings`] counts how the
+//! body of a plan may end.
 
 #![forbid(unsafe_code)]
 #![warn(missing_docs)]
@@ -14,6 +15,7 @@
 pub mod agent;
 pub mod answer;
 pub mod belief;
+pub mod board;
 pub mod division;
 pub mod endings;
 mod formed;

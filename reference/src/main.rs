@@ -1,8 +1,10 @@
 //! Not proved: the program, on the file "library". Without words behind its name it is the journal: standard input in, a line out
 //! for each line. `shift` is the same from the file "image", where there is one, and saves the agent to it when the input ends.
-//! `endings PLAN N` tells how many lists of N answers end the body of a plan: succeeded, failed.
+//! `board` writes a line for each live instance of that agent. `endings PLAN N` tells how many lists of N answers end the body of
+//! a plan: succeeded, failed.
 
 use reference::agent::Agent;
+use reference::board;
 use reference::endings::Endings;
 use reference::image;
 use reference::journal::{Journal, write_line};
@@ -19,13 +21,14 @@ const PIECE: usize = 1 << 16;
 const IMAGE: &str = "image";
 /// What an image is written to before it takes the place of the old one.
 const NEW_IMAGE: &str = "image.new";
-const USAGE: &str = "usage: reference [shift | endings PLAN N]";
+const USAGE: &str = "usage: reference [shift | board | endings PLAN N]";
 const STATUS_OF_USAGE: u8 = 2;
 
 /// What the words behind the program's name ask for.
 enum Mode {
     Journal,
     Shift,
+    Board,
     Endings { plan: u16, length: u16 },
 }
 
@@ -38,6 +41,7 @@ fn main() -> ExitCode {
     let done = match mode {
         Mode::Journal => run_journal(),
         Mode::Shift => run_shift(),
+        Mode::Board => write_board(),
         Mode::Endings { plan, length } => write_endings(plan, length),
     };
     match done {
@@ -54,6 +58,7 @@ fn mode(words: &[OsString]) -> Option<Mode> {
     match words[..] {
         [] => Some(Mode::Journal),
         ["shift"] => Some(Mode::Shift),
+        ["board"] => Some(Mode::Board),
         ["endings", plan, length] => Some(Mode::Endings { plan: number(plan)?, length: number(length)? }),
         _ => None,
     }
@@ -82,6 +87,14 @@ fn run_shift() -> io::Result<()> {
     match run(carried_over()?)? {
         Some(agent) => save(&agent),
         None => Ok(()),
+    }
+}
+
+fn write_board() -> io::Result<()> {
+    let mut output = io::stdout().lock();
+    match carried_over()? {
+        Ok(agent) => output.write_all(board::page(&agent).as_bytes()),
+        Err(refusal) => writeln!(output, "X {}", refusal.number()),
     }
 }
 

@@ -31,6 +31,8 @@ pub enum Refusal {
     Image = 12,
     /// The buffer is too short for the image.
     ImageRoom = 13,
+    /// The buffer is too short for the board's page.
+    BoardRoom = 14,
     /// The list of answers asked about is over 15 long.
     ListTooLong = 15,
 }

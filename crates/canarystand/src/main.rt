@@ -30,7 +30,7 @@ fn asked_mode() -> Mode {
 fn say_usage() {
     transfer::write_all(
         STDERR_FILENO,
-        b"usage: canarystand [shift | endings PLAN N]\n",
+        b"usage: canarystand [shift | board | endings PLAN N]\n",
     );
 }
 
@@ -59,6 +59,21 @@ fn answer_shift(input: &mut [u8], out: &mut [u8]) {
     }
 }
 
+// The board of the agent that a shift would start with.
+fn answer_board(input: &mut [u8], out: &mut [u8]) {
+    let start = start::from_image(input, out);
+    if !start.goes_on {
+        return;
+    }
+    let agent = start.agent;
+    let shown = board::board(agent, out);
+    if shown.refusal != 0 {
+        print_refusal(shown.refusal, out);
+        return;
+    }
+    print_first(shown.size, out);
+}
+
 // After how many lists of answers the plan has just succeeded, and just failed.
 fn answer_endings(plan: u16, length: u16, input: &mut [u8], out: &mut [u8]) {
     let n = start::read_library(input);
@@ -83,6 +98,7 @@ fn main() {
     match mode {
         Mode::Journal => answer_journal(&mut input, &mut out),
         Mode::Shift => answer_shift(&mut input, &mut out),
+        Mode::Board => answer_board(&mut input, &mut out),
         Mode::Endings { plan, length } => answer_endings(plan, length, &mut input, &mut out),
         Mode::Unknown => say_usage(),
     }

@@ -2,8 +2,8 @@
 use Prim.Native.Nat.{ℕ}
 use mathlib.Core.List.{List, [], _∷_}
 use Rattle.command.specs.declared.Mode.{Mode}
-use Rattle.command.specs.declared.Mode.the-variants.{Journal, Shift, Endings, Unknown}
-use Rattle.command.specs.Mode.{shiftName, endingsName}
+use Rattle.command.specs.declared.Mode.the-variants.{Journal, Shift, Board, Endings, Unknown}
+use Rattle.command.specs.Mode.{shiftName, boardName, endingsName}
 
 pub record Row : Type 0 where
   pub words : List (List ℕ)
@@ -32,12 +32,14 @@ unfoldable pub table : List Row
 table =
     asks [] Journal
     ∷ asks (shiftName ∷ []) Shift
+    ∷ asks (boardName ∷ []) Board
     ∷ asks (endingsName ∷ nought ∷ fifteen ∷ []) (Endings 0 15)
     -- an empty word, a name's beginning, another letter, a name with a word too many
     ∷ asks ([] ∷ []) Unknown
     ∷ asks (begun ∷ []) Unknown
     ∷ asks (capital ∷ []) Unknown
     ∷ asks (shiftName ∷ nought ∷ []) Unknown
+    ∷ asks (boardName ∷ nought ∷ []) Unknown
     ∷ asks (shiftName ∷ nought ∷ fifteen ∷ []) Unknown
     -- a mode of three words with fewer, with more, and with a word that is no number
     ∷ asks (endingsName ∷ []) Unknown

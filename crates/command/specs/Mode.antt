@@ -1,4 +1,4 @@
--- What the words behind the program's name ask for (document 02: request 10 brings `endings`, request 3 `shift`).
+-- What the words behind the program's name ask for (document 02: request 3 brings `shift`, request 9 `board`, request 10 `endings`).
 use Prim.Native.Nat.{ℕ, _-_}
 use mathlib.Core.Bool.{Bool, true, false, cond, _&&_}
 use mathlib.Core.Option.{Option, none, some}
@@ -7,7 +7,7 @@ use lib.Dec.{eqb}
 use lib.ListN.{take}
 use Rattle.reading.specs.Call.{number, largestNumber}
 use Rattle.command.specs.declared.Mode.{Mode}
-use Rattle.command.specs.declared.Mode.the-variants.{Journal, Shift, Endings, Unknown}
+use Rattle.command.specs.declared.Mode.the-variants.{Journal, Shift, Board, Endings, Unknown}
 
 -- ---- Words
 
@@ -21,6 +21,10 @@ same (a ∷ word) (b ∷ name) = eqb a b && same word name
 -- "shift"
 abbrev pub shiftName : List ℕ
 shiftName = 115 ∷ 104 ∷ 105 ∷ 102 ∷ 116 ∷ []
+
+-- "board"
+abbrev pub boardName : List ℕ
+boardName = 98 ∷ 111 ∷ 97 ∷ 114 ∷ 100 ∷ []
 
 -- "endings"
 abbrev pub endingsName : List ℕ
@@ -45,7 +49,8 @@ endingsMode plan length = endingsBy (number largestNumber plan) (number largestN
 unfoldable pub oneWord : List ℕ → Mode
 oneWord name =
     cond (same name shiftName) Shift
-    Unknown
+    (cond (same name boardName) Board
+    Unknown)
 
 unfoldable pub threeWords : List ℕ → List ℕ → List ℕ → Mode
 threeWords name first second =

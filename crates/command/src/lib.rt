@@ -3,11 +3,12 @@ ghost use mathlib.Core.Path.{_≡_};
 ghost use Rattle.command.specs.Mode.{same, wordsOf, endingsMode, oneWord, threeWords, modeOf};
 use reading::Word;
 
-// The journal; the journal of a shift, from image to image; how a plan may end after lists of so many answers; or words that ask for
-// nothing.
+// The journal; the journal of a shift, from image to image; the board; how a plan may end after lists of so many answers; or words that
+// ask for nothing.
 pub enum Mode {
     Journal,
     Shift,
+    Board,
     Endings { plan: u16, length: u16 },
     Unknown,
 }
@@ -48,6 +49,9 @@ fn one_word(name: &[u8]) -> Mode
 {
     if is_name(name, b"shift") {
         return Mode::Shift;
+    }
+    if is_name(name, b"board") {
+        return Mode::Board;
     }
     Mode::Unknown
 }

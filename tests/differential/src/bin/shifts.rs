@@ -1,6 +1,7 @@
 //! Carries generated journals over several shifts, by the proved program and by the reference, and compares what they write and the
 //! images that they leave: `shifts PROVED REFERENCE [SEEDS]`. Then the images are damaged, and the answers are compared.
-//! Some journals start from an image close to the last number; some images are handed on in the oldest form.
+//! Some journals start from an image close to the last number; some images are handed on in the oldest form. The board of each
+//! image is compared too.
 
 use differential::coverage::{Coverage, SPENT};
 use differential::images::kinds::{Kind, kinds};
@@ -10,6 +11,7 @@ use differential::random::Random;
 use differential::scenario;
 use reference::agent::{Agent, MOST_EXTERNAL, MOST_INSTANCES, MOST_STACKS};
 use reference::belief::MOST_BELIEFS;
+use reference::board::page;
 use reference::image::{image, restore};
 use reference::refusal::Refusal;
 use reference::state::Status;
@@ -24,6 +26,7 @@ const DAMAGED: usize = 10;
 /// The lines that an accepted image is carried on with.
 const CARRIED_ON: usize = 60;
 const SHIFT: &[&str] = &["shift"];
+const BOARD: &[&str] = &["board"];
 /// The first byte of an image of the oldest form.
 const OLDEST: u8 = 20;
 /// One in so many shifts is also run by the reference as a program.
@@ -34,6 +37,11 @@ const SEASONS: usize = 25;
 /// What else is to come up, beside the kinds of damage and what the images hold.
 const WANTED: &[&str] =
     &["old image carried over", "old image, accepted", "old image, X 12", "old image, X 10", "T over 65,535", "M over 65,535"];
+/// What the boards are to show.
+const BOARDS: &[&str] =
+    &["pages", "lines", "empty pages", "pages of 8 stacks", "lines of height 8", "board, X 12", "board, X 10"];
+/// One in so many damaged images has its board compared.
+const BOARD_SAMPLE: u64 = 3;
 /// How often each answer to a damaged image is to come, for each seed.
 const FLOORS: [(&str, u64); 3] = [("X 12", 6), ("X 10", 6), ("accepted", 6)];
 type Test = fn(&Agent) -> bool;
@@ -89,7 +97,9 @@ fn run(proved: &str, reference: &str, seeds: u64) -> Result<(), String> {
     let answers = FLOORS.map(|(name, _)| format!("{name}: {}", survey.count(name))).join(", ");
     let (shifts, images, seconds) = (survey.count("shifts"), survey.count("damaged images"), start.elapsed().as_secs_f64());
     println!("shifts: {shifts} shifts of {seeds} journals and {images} damaged images agree in {seconds:.1} s; {answers}");
-    let depths = DEPTHS.iter().map(|(name, _)| *name).chain(WANTED.iter().copied()).chain(SPENT.iter().copied());
+    let boards = BOARDS.iter().map(|name| format!("{name}: {}", survey.count(name))).collect::<Vec<_>>().join(", ");
+    println!("boards: {boards}");
+    let depths = DEPTHS.iter().map(|(name, _)| *name).chain(WANTED.iter().copied()).chain(SPENT.iter().chain(BOARDS).copied());
     let names = survey.kinds.iter().map(|kind| kind.name).chain(depths);
     let rarest: Vec<(u64, &str)> = names.map(|name| (survey.count(name), name)).collect();
     if let Some((count, name)) = rarest.iter().min() {
@@ -166,6 +176,7 @@ impl Survey {
             output.extend(shift.output);
             let image = shift.image.ok_or("no image is saved")?;
             self.look(&image)?;
+            self.board(&image_alone(&image))?;
             let next = parts.get(place + 1).unwrap_or(part);
             for _ in 0..DAMAGED {
                 self.damaged(&image, &next[..next.len().min(CARRIED_ON)].concat(), random)?;
@@ -189,7 +200,9 @@ impl Survey {
     /// A damaged library leaves no image, unless it is accepted.
     fn refused_library(&mut self, seed: u64) -> Result<(), String> {
         let scenario = scenario::damaged(seed, &mut Coverage::default());
-        self.shift(&Files { library: scenario.library.as_deref(), image: None }, &scenario.input, Feed::Whole).map(drop)
+        let files = Files { library: scenario.library.as_deref(), image: None };
+        self.board(&files)?;
+        self.shift(&files, &scenario.input, Feed::Whole).map(drop)
     }
 
     /// What both programs do; the reference mostly as a library.
@@ -205,6 +218,35 @@ impl Survey {
             return Err("the reference as a program and as a library".to_string());
         }
         Ok(shift)
+    }
+
+    /// The boards of both programs, which leave the image as it was.
+    fn board(&mut self, files: &Files) -> Result<(), String> {
+        let (agent, kept) = (agent(files), files.image.map(<[u8]>::to_vec));
+        let page = match &agent {
+            Ok(agent) => page(agent),
+            Err(refusal) => said(*refusal),
+        };
+        let expected = Shift { output: page.into_bytes(), image: kept };
+        self.note("boards");
+        let program = if self.count("boards").is_multiple_of(SAMPLE) { &self.reference } else { &self.proved };
+        if let Some(difference) = difference(&expected, &program.shift(BOARD, files, b"C\n", Feed::Whole)?) {
+            return Err(format!("board, {difference}{}", left(files, b"")));
+        }
+        match agent {
+            Ok(agent) => self.shown(&agent),
+            Err(refusal) => self.note(&format!("board, X {}", refusal.number())),
+        }
+        Ok(())
+    }
+
+    /// Counts what a board shows.
+    fn shown(&mut self, agent: &Agent) {
+        self.note("pages");
+        agent.stacks().iter().flatten().for_each(|_| self.note("lines"));
+        self.note_if(agent.stacks().is_empty(), "empty pages");
+        self.note_if(agent.stacks().len() == MOST_STACKS, "pages of 8 stacks");
+        self.note_if(agent.stacks().iter().any(|stack| stack.len() == MOST_INSTANCES), "lines of height 8");
     }
 
     /// The image in the newest or the oldest form, damaged in the next way that can be.
@@ -241,6 +283,9 @@ impl Survey {
         let kept = answer.is_some() || bytes[0] != OLDEST;
         if kept && shift.image.as_deref() != Some(&bytes[..]) {
             return Err(format!("{name}: the image is not left as it was"));
+        }
+        if self.count("damaged images").is_multiple_of(BOARD_SAMPLE) {
+            self.board(&files).map_err(|difference| format!("{name}: {difference}"))?;
         }
         match answer {
             None => {
