@@ -52,9 +52,9 @@ fn answer_shift(input: &mut [u8], out: &mut [u8]) {
         return;
     }
     let first = start.agent;
-    let session = answer_all(first, input, out);
-    if session.ended {
-        let last = session.agent;
+    let dialogue = answer_all(first, input, out);
+    if dialogue.ended {
+        let last = dialogue.agent;
         keep::save_image(last, out);
     }
 }

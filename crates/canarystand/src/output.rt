@@ -4,7 +4,7 @@ use model::Answer;
 use steps::answer;
 
 // Writes to standard output, and tells whether it could.
-pub(crate) fn print(bytes: &[u8]) -> bool {
+fn print(bytes: &[u8]) -> bool {
     let written = transfer::write_all(STDOUT_FILENO, bytes) == bytes.len();
     if !written {
         os::fail(b"canarystand: standard output");
@@ -12,11 +12,9 @@ pub(crate) fn print(bytes: &[u8]) -> bool {
     written
 }
 
-// Writes the first n bytes.
-pub(crate) fn print_first(n: usize, out: &[u8]) {
-    if n <= out.len() {
-        print(&out[..n]);
-    }
+// Writes the first n bytes, and tells whether it could.
+pub(crate) fn print_first(n: usize, out: &[u8]) -> bool {
+    n <= out.len() && print(&out[..n])
 }
 
 pub(crate) fn print_refusal(number: u16, out: &mut [u8]) {

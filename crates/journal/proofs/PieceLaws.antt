@@ -40,22 +40,23 @@ journal-empty j e =
     let s = journal-chain j in
     sym (ap length (s .printed)) ∙ no-text (s .answers) (ap length (s .lines) ∙ e)
 
-module _ {a : Agent} {carry : Carry} {piece before after : List ℕ} {r : Fed} (f : Feeds a carry piece before after r) (room : mostLine ≤ length before) where
-  -- where nothing was read no line has ended
-  none-ended : r .read ≡ 0 → length (f .calls) ≡ 0
-  none-ended e =
-      let all = lines-ended (begun carry) piece in
-      let left = lines-ended (begun (r .carry)) piece in
-      let same : length (callsFrom (begun carry) (piece ++ (newline ∷ []))) ≡ length (f .calls) + length (callsFrom (begun (r .carry)) (piece ++ (newline ∷ [])))
-      = ap length (f .said (newline ∷ []) ∙ ap (λ n. f .calls ++ callsFrom (begun (r .carry)) (drop n piece ++ (newline ∷ []))) e)
-      ∙ length-append (f .calls) (callsFrom (begun (r .carry)) (piece ++ (newline ∷ []))) in
-      omega (arith, all, left, same)
+-- where nothing was read no line has ended
+pub none-ended : {a : Agent} {carry : Carry} {piece before after : List ℕ} {r : Fed} (f : Feeds a carry piece before after r) → r .read ≡ 0
+    → length (f .calls) ≡ 0
+none-ended {a} {carry} {piece} {before} {after} {r} f e =
+    let all = lines-ended (begun carry) piece in
+    let left = lines-ended (begun (r .carry)) piece in
+    let same : length (callsFrom (begun carry) (piece ++ (newline ∷ []))) ≡ length (f .calls) + length (callsFrom (begun (r .carry)) (piece ++ (newline ∷ [])))
+    = ap length (f .said (newline ∷ []) ∙ ap (λ n. f .calls ++ callsFrom (begun (r .carry)) (drop n piece ++ (newline ∷ []))) e)
+    ∙ length-append (f .calls) (callsFrom (begun (r .carry)) (piece ++ (newline ∷ []))) in
+    omega (arith, all, left, same)
 
-  -- and nothing was written, so there was nothing to read
+module _ {a : Agent} {carry : Carry} {piece before after : List ℕ} {r : Fed} (f : Feeds a carry piece before after r) (room : mostLine ≤ length before) where
+  -- nor was anything written, so there was nothing to read
   none-left : r .read ≡ 0 → (n : ℕ) → n ≡ length piece → length piece ≡ 0
   none-left e zero p = sym p
   none-left e (suc n) p =
-      let text = journal-empty (f .journal) (none-ended e) in
+      let text = journal-empty (f .journal) (none-ended f e) in
       let size : length after ≡ length before = ap length (f .written .bytes) ∙ length-sets before 0 (f .text) in
       let unread : r .read < length piece = omega (arith, p, e) in
       absurd (omega (arith, f .whole unread, f .written .past, text, size, room))

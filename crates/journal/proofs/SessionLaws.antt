@@ -57,9 +57,9 @@ newline-ends none call e = refl
 newline-ends (some []) call e = absurd (let n : 1 ≡ 0 = ap length e in omega (arith, n))
 newline-ends (some (b ∷ line)) call e = refl
 
-none-left : {A : Type 0} (xs : List A) → length xs ≡ 0 → xs ≡ []
-none-left [] e = refl
-none-left (x ∷ xs) e = absurd (omega (arith, e))
+pub nothing-in : {A : Type 0} (xs : List A) → length xs ≡ 0 → xs ≡ []
+nothing-in [] e = refl
+nothing-in (x ∷ xs) e = absurd (omega (arith, e))
 
 -- where a feed has read a newline nothing is left to be said
 all-said : (held after : Option (List ℕ)) (calls : List (Option Call))
@@ -67,7 +67,7 @@ all-said : (held after : Option (List ℕ)) (calls : List (Option Call))
 all-said held after calls said =
     let two : 2 ≡ length calls + 1 = ap length (said (newline ∷ [])) ∙ length-append calls (callsFrom after (newline ∷ [])) in
     let one : 1 ≡ length calls + length (atEnd after) = ap length (said []) ∙ length-append calls (atEnd after) in
-    none-left (atEnd after) (omega (arith, two, one))
+    nothing-in (atEnd after) (omega (arith, two, one))
 
 -- ---- A session
 

@@ -1,4 +1,5 @@
 pub mod Session
+pub mod Loop
 pub mod Answers
 pub mod Account
 pub mod Output

@@ -1,7 +1,7 @@
 -- `canarystand::output::print_first` meets its contract: what is written is a part of the output.
-use borrow.Author.Needs.{needs}
 use native.Mathlib.Omega.{arith}
 use lib.ListN.{length-take}
+use borrow.Author.Needs.{needs}
 use Rattle.canarystand.proofs.output.print_first.Statement.{statement}
 use Rattle.canarystand.proofs.output.print_first.Tie as tie
 
