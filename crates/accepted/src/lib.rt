@@ -1,4 +1,6 @@
 // The test of a library's bytes: what breaks the layout is refused by its number, and a plan of an accepted library is handed out.
+#![tactic(auto)]
+
 ghost use Rattle.std.specs.Prelude.{◌≡◌};
 ghost use Rattle.accepted.specs.Refusal.{refusal_of, part_refusal_of, part_of};
 

@@ -5,7 +5,6 @@ use mathlib.Core.Path.{◌≡◌, refl, ap, sym, subst, subst⁻¹, ◌∙◌}
 use mathlib.Core.Bool.{Bool, true, false}
 use mathlib.Core.Option.{Option, none, some}
 use mathlib.Core.List.{List, [], ◌∷◌, ◌++◌}
-use lib.ListN.{length}
 use Rattle.lists.proofs.BoolLaws.{both_ways}
 use Rattle.library.specs.Layout.{library_of}
 use Rattle.model.specs.declared.Answer.TheVariants.{Refused}

@@ -34,7 +34,6 @@ use Rattle.accepted.proofs.Accepted.{keeps}
 use Rattle.model.specs.declared.Event.{Event}
 use Rattle.model.specs.State.{Intention, report, Reply, no_event}
 use Rattle.model.specs.Live.{is_goal, live, serves, is_pending, is_ready, is_poster}
-use Rattle.model.specs.declared.Instance.{Instance}
 use Rattle.model.specs.Instance.{is_suspended, branches_of}
 use Rattle.model.specs.Report.{report_refusal, report_changes, take_in, report_by, reported, new_event}
 use Rattle.literal.specs.Divide.{divide}

@@ -12,7 +12,7 @@ use steps::{answer, step};
 use stream::{Carry, Next};
 
 // The agent and the line so far after a chunk, how much of the chunk was read and how much of the output written.
-#[derive(Drop)]
+#[derive(Clone, Copy)]
 pub struct Fed {
     pub agent: Agent,
     pub carry: Carry,
@@ -21,7 +21,7 @@ pub struct Fed {
 }
 
 // The same, of the agent's state.
-#[derive(Drop)]
+#[derive(Clone, Copy)]
 struct Ran {
     state: State,
     carry: Carry,

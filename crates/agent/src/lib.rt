@@ -1,4 +1,6 @@
 // The agent: report, cycle and outcome, and a chunk of the journal.
+#![tactic(auto)]
+
 use load::Agent;
 use model::Answered;
 
@@ -12,7 +14,7 @@ mod respond; // what a line or a call gives
 mod turn; // the turn of a stack
 
 // What a call gives: the agent after it, and its result.
-#[derive(Drop)]
+#[derive(Clone, Copy)]
 pub struct Replied {
     pub agent: Agent,
     pub result: Answered,

@@ -20,7 +20,7 @@ const NOT_WELL_FORMED: u16 = 10;
 
 // An answer that leaves the state as it is; a report; a cycle in which some event may be taken up;
 // one in which none may and the stack at a place runs; an outcome that the stack at a place waits for.
-#[derive(Drop)]
+#[derive(Clone, Copy)]
 pub enum Look {
     Answered(Answer),
     Reports { kind: u16, literal: Literal },

@@ -8,7 +8,7 @@ use lib.ListN.{length, take, drop, length-append, length-take, length-drop, leng
 use lib.Seq.{take-suc-set}
 use lib.Dec.{leb, ltb}
 use borrow.Author.Tests.{le-leb, leb-true, lt-ltb, ltb-true, ltb-false}
-use Rattle.lists.specs.Search.{any, all, distinct, position}
+use Rattle.lists.specs.Search.{all, distinct, position}
 use Rattle.lists.specs.Gap.{remove_at, close_gap}
 use Rattle.lists.proofs.BoolLaws.{by_cases, both_ways, and_parts, and_both}
 use Rattle.lists.proofs.SearchLaws.{any-position}

@@ -4,9 +4,9 @@ use native.Mathlib.Numerals.{add-one}
 use native.Mathlib.Nat.{zero-add}
 use native.Mathlib.Omega.{arith}
 use mathlib.Core.Path.{◌≡◌, refl, ap, sym, ◌∙◌}
-use mathlib.Core.Bool.{Bool, true, false, not, ◌&&◌, and_false}
+use mathlib.Core.Bool.{Bool, true, false, not, ◌&&◌, and-false}
 use mathlib.Core.List.{List, ◌∷◌}
-use lib.ListN.{length, take, drop, get_or, set, length-take, length-drop, drop_of_length-le}
+use lib.ListN.{length, take, drop, get_or, length-take, length-drop, drop_of_length-le}
 use lib.Seq.{drop-cons, get_or-take}
 use lib.Dec.{ltb, leb}
 use borrow.Author.Tests.{lt-ltb, le-ltb, le-leb, lt-leb, ltb-true, ltb-false, leb-true, leb-false}
@@ -135,13 +135,13 @@ module _ (items : List Literal) (n i : ℕ) (d : Literal) (low : i < n) (high : 
   module _ (g : is_ground (get_or items i d) ≡ true) (place : ℕ) (e : place ≡ i + 1 + position (same (get_or items i d)) (drop (i + 1) (take n items))) where
     pub sound_repeated : place < n → false ≡ are_sound (take n items)
     sound_repeated h =
-        sym (sym inv ∙ ap are_sound element ∙ sound_cons item rest true true _ g (repeated item place e ∙ lt-ltb place n h) refl ∙ and_false (all is_ground rest))
+        sym (sym inv ∙ ap are_sound element ∙ sound_cons item rest true true _ g (repeated item place e ∙ lt-ltb place n h) refl ∙ and-false (all is_ground rest))
 
     module _ (h : n ≤ place) (against : ℕ) (f : against ≡ i + 1 + position (opposed (get_or items i d)) (drop (i + 1) (take n items))) where
       pub sound_opposed : against < n → false ≡ are_sound (take n items)
       sound_opposed k =
           sym (sym inv ∙ ap are_sound element ∙ sound_cons item rest true false true g (repeated item place e ∙ le-ltb place n h) (repeated (opposite item) against f ∙ lt-ltb against n k)
-          ∙ ap (λ (b : Bool). all is_ground rest && b) (and_false (distinct same rest)) ∙ and_false (all is_ground rest))
+          ∙ ap (λ (b : Bool). all is_ground rest && b) (and-false (distinct same rest)) ∙ and-false (all is_ground rest))
 
       pub sound_next : n ≤ against → are_sound (drop (i + 1) (take n items)) ≡ are_sound (take n items)
       unfolding rest

@@ -1,4 +1,6 @@
 // The belief table by value: a literal held, added or removed, and the rules for beliefs.
+#![tactic(auto)]
+
 ghost use Rattle.std.specs.Prelude.{◌≡◌, ◌+◌, ◌-◌, ◌<◌, ◌≤◌, take, drop};
 ghost use Rattle.lists.specs.Search.{position};
 ghost use Rattle.lists.specs.Gap.{close_gap};
@@ -12,21 +14,21 @@ use literal::Literal;
 pub const MOST_BELIEFS: usize = 64;
 
 // The beliefs are the first `count` items, oldest first; the other places are no part of the table.
-#[derive(Drop)]
+#[derive(Clone, Copy)]
 pub struct Beliefs {
     pub items: [Literal; MOST_BELIEFS],
     pub count: usize,
 }
 
 // A change of the beliefs: the literal is removed, or else added.
-#[derive(Drop)]
+#[derive(Clone, Copy)]
 pub struct Change {
     pub removes: bool,
     pub literal: Literal,
 }
 
 // The table after an add or a removal, whether it changed, whether there was room, and whether an add took out the opposite.
-#[derive(Drop)]
+#[derive(Clone, Copy)]
 pub struct Applied {
     pub table: Beliefs,
     pub changed: bool,

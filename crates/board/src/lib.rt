@@ -1,4 +1,6 @@
 // The board by the table: a line of 72 characters for each live instance, into a lent buffer.
+#![tactic(auto)]
+
 ghost use Rattle.board.specs.Board.{Boards};
 
 use crate::line::LINE_BYTES;
@@ -18,7 +20,7 @@ const NOT_FORMED: u16 = 10;
 const TOO_SHORT: u16 = 14;
 
 // What printing the board answers: the refusal's number, 0 where there is none, and how many bytes it wrote.
-#[derive(Drop)]
+#[derive(Clone, Copy)]
 pub struct Printed {
     pub refusal: u16,
     pub size: usize,

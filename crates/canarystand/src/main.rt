@@ -1,4 +1,6 @@
 // The program: the journal of the file "library" of its folder, or what the words behind its name ask for.
+#![tactic(auto)]
+
 mod keep; // the agent kept for the next shift
 mod lines; // the input's lines, answered
 mod output; // standard output

@@ -10,7 +10,7 @@ use transfer::file::Content;
 pub(crate) const TOO_LONG: u16 = 2;
 
 // The agent, and whether there is one.
-#[derive(Drop)]
+#[derive(Clone, Copy)]
 pub(crate) struct Start {
     pub agent: Agent,
     pub goes_on: bool,

@@ -18,7 +18,6 @@ use Rattle.load.specs.Load.{bytes_of, is_well_formed_agent}
 use Rattle.agent.specs.declared.Replied.{Replied}
 use Rattle.agent.specs.Calls.{view_replied, Calls}
 use Rattle.agent.specs.Chain.{Link, Chain, entry_of, entries_of, calls_of}
-use Rattle.agent.specs.Chain as Chain
 use Rattle.agent.specs.Feed.{in_state}
 use Rattle.agent.proofs.ChainLaws.{call_library, call_test}
 use Rattle.carried.specs.Alike.{Alike}

@@ -17,7 +17,6 @@ use Rattle.load.specs.declared.Loaded.{Loaded}
 use Rattle.load.specs.Load.{Loads, is_well_formed_agent}
 use Rattle.image.specs.Saves.{image_of_agent}
 use Rattle.agent.specs.Chain.{Link, Chain, entry_of, entries_of, calls_of}
-use Rattle.agent.specs.Chain as Chain
 use Rattle.agent.proofs.ChainLaws.{held_formed, loaded_held}
 use Rattle.agent.proofs.ChainLaws as ChainLaws
 use Rattle.carried.specs.Alike.{Alike}
@@ -31,7 +30,7 @@ unbroken_of : {a b c : Agent} {links : List Link} → Alike a b → Shifts b lin
 unbroken_of {a} same start = record { unbroken = []; last = a; chain = Chain.start; entries = refl; alike = same }
 unbroken_of {a} same (then link k rest) =
     let m = mirrored same link.call link.given k in
-    let u = unbroken_of (alike-after same link.call m.calls k) rest in
+    let u = unbroken_of {a = m.given.agent} (alike-after same link.call m.calls k) rest in
     let first = same_entry link.call link.call m.given link.given refl (same_reply same link.call m.calls k) in
     let more = u.entries in
     record {
@@ -41,7 +40,7 @@ unbroken_of {a} same (then link k rest) =
       entries = λ i. first i ∷ more i;
       alike = u.alike;
     }
-unbroken_of same (carried restored over rest) = unbroken_of (alike_then same (carried-alike over)) rest
+unbroken_of {a} same (carried restored over rest) = unbroken_of {a = a} (alike_then same (carried-alike over)) rest
 
 -- from every agent, whatever was saved and restored among the calls: there is a chain of the same calls with the same results and states,
 -- and an agent at its end that no call tells from the one at the end of the shifts

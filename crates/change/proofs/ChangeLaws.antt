@@ -11,7 +11,7 @@ use Rattle.belief.specs.declared.Beliefs.{Beliefs}
 use Rattle.belief.specs.declared.Change.{Change}
 use Rattle.belief.specs.declared.Applied.{Applied}
 use Rattle.belief.specs.Beliefs.{most_beliefs, view, holds}
-use Rattle.belief.specs.Table.{unchanged, add, remove, is_table}
+use Rattle.belief.specs.Table.{unchanged, remove, is_table}
 use Rattle.belief.proofs.TableSteps.{add_held, add-full}
 use Rattle.belief.proofs.BeliefLaws.{add_places, remove_places, add-table, remove-table}
 use Rattle.change.specs.declared.Changed.{Changed}

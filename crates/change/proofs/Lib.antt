@@ -1,3 +1,2 @@
-pub mod ByValue
 pub mod StepLaws
 pub mod ChangeLaws

@@ -1,4 +1,6 @@
 // The change call: the belief table after a lent list of changes.
+#![tactic(auto)]
+
 ghost use Rattle.std.specs.Prelude.{◌≡◌, true, false};
 ghost use Rattle.literal.specs.Literal.{is_ground};
 ghost use Rattle.change.specs.Changes.{step_by, changed};
@@ -7,7 +9,7 @@ use belief::{Beliefs, Change};
 use literal::Literal;
 
 // What the change call answers: the refusal's number, 0 where there is none, and the table.
-#[derive(Drop)]
+#[derive(Clone, Copy)]
 pub struct Changed {
     pub refusal: u16,
     pub table: Beliefs,

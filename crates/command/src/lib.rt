@@ -1,4 +1,6 @@
 // The words behind the program's name, as what it is asked to do.
+#![tactic(auto)]
+
 ghost use Rattle.std.specs.Prelude.{◌≡◌};
 ghost use Rattle.command.specs.Mode.{same, words_of, endings_mode, one_word, three_words, mode_of};
 
@@ -6,7 +8,7 @@ use reading::Word;
 
 // The journal; the journal of a shift, from image to image; the board; how a plan may end after lists of so many answers; or words that
 // ask for nothing.
-#[derive(Drop)]
+#[derive(Clone, Copy)]
 pub enum Mode {
     Journal,
     Shift,

@@ -1,4 +1,6 @@
 // What is said to an agent and what it answers, turn by turn: the program around it reads, writes and calls, and decides nothing.
+#![tactic(auto)]
+
 ghost use Rattle.std.specs.Prelude.{true, false};
 ghost use Rattle.dialogue.specs.Dialogue.{Begins, Turns, TurnsBy};
 
@@ -8,7 +10,7 @@ use stream::{Carry, Last};
 
 // The agent, the line so far, how much of the last piece of input is used, how many bytes of the output the last turn wrote,
 // whether another piece is to be read, and whether the input's end is answered.
-#[derive(Drop)]
+#[derive(Clone, Copy)]
 pub struct Dialogue {
     pub agent: Agent,
     pub carry: Carry,

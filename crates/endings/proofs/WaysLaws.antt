@@ -15,7 +15,7 @@ use Rattle.lists.proofs.CountLaws.{total-append, total_same, total-map, total_ze
 use Rattle.library.specs.declared.Branch.{Branch}
 use Rattle.library.specs.Plan.{no_branch}
 use Rattle.model.specs.Turn.{Move, fails, succeeds, tries, move_by}
-use Rattle.endings.specs.Answers.{Standing, succeeded, failed, over, standing, taking, move_at, after, answers, has_succeeded, has_failed, ways, both_of, endings}
+use Rattle.endings.specs.Answers.{Standing, over, standing, taking, move_at, after, answers, has_succeeded, has_failed, ways, both_of, endings}
 use Rattle.endings.specs.declared.Counts.{Counts}
 
 -- ---- How many lists

@@ -1,4 +1,6 @@
 // How many lists of answers end the body of a plan (document 02, request 10).
+#![tactic(auto)]
+
 ghost use Rattle.std.specs.Prelude.{◌≡◌, ◌≤◌, ◌<◌, [], length, get_or};
 ghost use Rattle.library.specs.Layout.{plan_count, plan_of};
 ghost use Rattle.accepted.specs.Refusal.{refusal_of};
@@ -8,7 +10,7 @@ ghost use Rattle.endings.specs.Endings.{refused_by, endings_of};
 use library::plan::{branch, branch_count};
 
 // How many lists of answers there are after which the body has just succeeded, and just failed.
-#[derive(Drop)]
+#[derive(Clone, Copy)]
 pub struct Counts {
     pub succeeded: u32,
     pub failed: u32,
@@ -26,7 +28,7 @@ fn both(succeeded: u32, failed: u32) -> Counts
 // From a state, none of its branches tried.
 #[cycle(from_branch_from_state)]
 fn from_state(library: &[u8], plan: usize, state: usize, n: usize) -> Counts
-    requires library_value { (refusal_of library.now ≡ 0) × (plan < plan_count library.now) }
+    requires accepted { (refusal_of library.now ≡ 0) × (plan < plan_count library.now) }
     requires state_in_bounds { (state < length (plan_of library.now plan).states) × (n ≤ 15) }
     ensures { result ≡ endings (plan_of library.now plan).states state 0 n }
 {
@@ -42,7 +44,7 @@ fn from_state(library: &[u8], plan: usize, state: usize, n: usize) -> Counts
 // From a state that is no end, the branches before `at` tried.
 #[cycle(from_branch_from_state)]
 fn from_branch(library: &[u8], plan: usize, state: usize, at: usize, n: usize) -> Counts
-    requires library_value { (refusal_of library.now ≡ 0) × (plan < plan_count library.now) }
+    requires accepted { (refusal_of library.now ≡ 0) × (plan < plan_count library.now) }
     requires state_in_bounds { (state < length (plan_of library.now plan).states) × (n ≤ 15) }
     requires at_in_bounds { at ≤ length (get_or (plan_of library.now plan).states state []) }
     requires nonzero { 0 < length (get_or (plan_of library.now plan).states state []) }
@@ -67,7 +69,7 @@ fn from_branch(library: &[u8], plan: usize, state: usize, at: usize, n: usize) -
 }
 
 // What the plan's body comes to: the refusal's number, 0 where there is none, and the counts, 0 where it is refused.
-#[derive(Drop)]
+#[derive(Clone, Copy)]
 pub struct Endings {
     pub refusal: u16,
     pub counts: Counts,

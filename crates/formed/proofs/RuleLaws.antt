@@ -3,7 +3,7 @@ use Prim.Native.Nat.{ℕ, ◌+◌, ◌*◌, ◌/◌, ◌^◌, ◌<◌, ◌≤◌
 use native.Mathlib.Nat.{div-eq_of_lt, div-lt_iff_lt-mul, one-mul}
 use native.Mathlib.Omega.{arith}
 use mathlib.Core.Path.{◌≡◌, sym, ◌∙◌}
-use mathlib.Core.Bool.{Bool, true, false, not, ◌&&◌, ◌||◌, and_false, and_true, or-true}
+use mathlib.Core.Bool.{Bool, true, false, not, ◌&&◌, ◌||◌, and-false, and-true, or-true}
 use mathlib.Core.List.{List}
 use lib.Dec.{leb, ltb, eqb}
 use lib.ListN.{length}
@@ -161,11 +161,11 @@ module _ (stack : Stack) where
 
     pub low_stack : asleep ≡ true → stack.depth < 7 → true ≡ (leb stack.depth most_below && is_stack (view_stack stack))
     low_stack h low =
-        sym (in_parts ∙ rw (h, le-leb (stack.depth + 1) 8 (omega arith), lt-leb 8 (stack.depth + 1) (omega arith), and_false))
+        sym (in_parts ∙ rw (h, le-leb (stack.depth + 1) 8 (omega arith), lt-leb 8 (stack.depth + 1) (omega arith), and-false))
 
     pub full-stack : asleep ≡ true → 7 ≤ stack.depth → not (is_suspended stack.top.status) ≡ (leb stack.depth most_below && is_stack (view_stack stack))
     full-stack h high =
-        sym (in_parts ∙ rw (h, le-leb (stack.depth + 1) 8 (omega arith), le-leb 8 (stack.depth + 1) (omega arith), and_true))
+        sym (in_parts ∙ rw (h, le-leb (stack.depth + 1) 8 (omega arith), le-leb 8 (stack.depth + 1) (omega arith), and-true))
 
 -- ---- Who serves what
 

@@ -1,4 +1,6 @@
 // The test for well-formed states, rule by rule.
+#![tactic(auto)]
+
 ghost use Rattle.std.specs.Prelude.{◌≡◌};
 ghost use Rattle.formed.specs.Formed.{is_state_formed, is_formed, is_well_formed_with};
 

@@ -3,7 +3,7 @@ use Prim.Native.Nat.{ℕ, zero, suc, ◌+◌, ◌*◌, ◌<◌, ◌≤◌, min}
 use native.Mathlib.Nat.{mul-suc, mul-le-mul_left}
 use native.Mathlib.Numerals.{add-one}
 use native.Mathlib.Omega.{arith}
-use mathlib.Core.Path.{◌≡◌, refl, ap, ap₂, sym, ◌∙◌}
+use mathlib.Core.Path.{◌≡◌, refl, ap, ap₂, sym, ◌∙◌, subst⁻¹}
 use mathlib.Core.Bool.{Bool, true}
 use mathlib.Core.List.{List, [], ◌∷◌, ◌++◌, append_assoc}
 use lib.Dec.{lit<}
@@ -43,7 +43,10 @@ module _ {A : Type 0} {write : A → List ℕ} {read : List ℕ → ℕ → A} {
       let first = codec.back before (each write xs ++ after) x g.0 in
       let width = codec.sized before (each write xs ++ after) x g.0 in
       let next : length before + length (write x) ≡ length (before ++ write x) = sym (length-append before (write x)) in
-      rw (regroup, first, width, next, moved, row_back (before ++ write x) after xs g.1)
+      let whole = before ++ (write x ++ (each write xs ++ after)) in
+      let rest : row (read whole) (size whole) (length xs) (length (before ++ write x)) ≡ xs =
+      subst⁻¹ (λ (w : List ℕ). row (read w) (size w) (length xs) (length (before ++ write x)) ≡ xs) moved (row_back (before ++ write x) after xs g.1) in
+      subst⁻¹ (λ (w : List ℕ). row (read w) (size w) (suc (length xs)) (length before) ≡ x ∷ xs) regroup (rw (first, width, next, rest))
 
   -- a list: its count, then its items
   pub rows_back : (most : ℕ) (before after : List ℕ) (xs : List A) → length xs ≤ most → all good xs ≡ true

@@ -1,8 +1,8 @@
 -- Instances and stacks are read back where they were written.
-use Prim.Native.Nat.{ℕ, suc, ◌+◌, ◌-◌, ◌*◌, ◌<◌, ◌≤◌}
+use Prim.Native.Nat.{ℕ, suc, ◌+◌, ◌*◌, ◌<◌, ◌≤◌}
 use native.Mathlib.Nat.{add-zero, mul-suc}
 use native.Mathlib.Omega.{arith}
-use mathlib.Core.Path.{◌≡◌, refl, ap, ap₂, sym, ◌∙◌}
+use mathlib.Core.Path.{◌≡◌, refl, ap, ap₂, sym, ◌∙◌, subst⁻¹}
 use mathlib.Core.Bool.{Bool, true, false, ◌||◌}
 use mathlib.Core.List.{List, [], ◌∷◌, ◌++◌, append_assoc, append-nil, reverse, reverse-reverse}
 use lib.Dec.{eqb, leb, lit<}
@@ -53,7 +53,9 @@ entries_back before (term ∷ terms) after variable h =
     sym (append_assoc before (word_bytes term) (words_bytes terms ++ after)) in
     let next : length before + 2 ≡ length (before ++ word_bytes term) = sym (length-append before (word_bytes term)) in
     ap₂ (λ (t : ℕ) (ts : List ℕ). t ∷ ts) (ap (entry_of variable) first ∙ same_entry variable term parts.0)
-    (rw (moved, next) (entries_back (before ++ word_bytes term) terms after (suc variable) parts.1))
+    (subst⁻¹ (λ (w : List ℕ). entries_at w (suc variable) (length terms) (length before + 2) ≡ terms) moved
+    (subst⁻¹ (λ (n : ℕ). entries_at ((before ++ word_bytes term) ++ (words_bytes terms ++ after)) (suc variable) (length terms) n ≡ terms) next
+    (entries_back (before ++ word_bytes term) terms after (suc variable) parts.1)))
 
 env_back : (before after : List ℕ) (env : Env) → is_env env ≡ true
     → env_at (before ++ (words_bytes env.terms ++ after)) (length before) ≡ env

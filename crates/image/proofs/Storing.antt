@@ -1,6 +1,6 @@
 -- A well-formed state of an accepted library can be stored in the newest form: every kind has a code, every stack and every environment
 -- its room.
-use Prim.Native.Nat.{ℕ, zero, suc, ◌+◌, ◌<◌, ◌≤◌}
+use Prim.Native.Nat.{ℕ, zero, suc, ◌<◌, ◌≤◌}
 use native.Mathlib.Omega.{arith}
 use mathlib.Core.Path.{◌≡◌, refl, sym, ap, subst⁻¹}
 use mathlib.Core.Bool.{Bool, true, false, not, ◌&&◌, ◌||◌}

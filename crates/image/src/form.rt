@@ -8,7 +8,7 @@ use crate::words::WORD_BYTES;
 use library::bytes::u16_at;
 
 // How wide the number of an external event or of an instance is: 16 bits in the older form, 32 in the newest, which has one body more.
-#[derive(Drop)]
+#[derive(Clone, Copy)]
 pub(crate) enum Form {
     Narrow,
     Wide,

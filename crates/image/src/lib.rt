@@ -1,4 +1,6 @@
 // Images: an agent as bytes, and back (docs/IMAGE-FORMAT.md).
+#![tactic(auto)]
+
 mod beliefs; // the belief table
 mod bytes; // parts of a slice: copied, and held against another
 mod events; // the queue

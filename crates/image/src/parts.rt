@@ -12,7 +12,7 @@ use load::MOST_BYTES;
 use state::{MOST_QUEUED, State};
 
 // A library in the first `size` bytes of an array.
-#[derive(Drop)]
+#[derive(Clone, Copy)]
 pub(crate) struct LibraryCopy {
     pub bytes: [u8; MOST_BYTES],
     pub size: usize,

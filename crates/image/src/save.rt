@@ -13,7 +13,7 @@ pub(crate) const NOT_FORMED: u16 = 10;
 const TOO_SHORT: u16 = 13;
 
 // What save answers: the refusal's number, 0 where there is none, and how many bytes it wrote.
-#[derive(Drop)]
+#[derive(Clone, Copy)]
 pub struct Saved {
     pub refusal: u16,
     pub size: usize,

@@ -22,7 +22,7 @@ use state::{MOST_BELOW, MOST_STACKS, Stack};
 const INSTANCE_FIELDS: usize = 24;
 
 // The stacks that were read, the first `count` of the array.
-#[derive(Drop)]
+#[derive(Clone, Copy)]
 pub(crate) struct StackRow {
     pub items: [Stack; MOST_STACKS],
     pub count: usize,

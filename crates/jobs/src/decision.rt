@@ -10,7 +10,7 @@ use library::contents::plan_count;
 use library::{Branch, plan};
 use model::Instance;
 
-#[derive(Drop)]
+#[derive(Clone, Copy)]
 pub enum Decision {
     Fail,
     Succeed,

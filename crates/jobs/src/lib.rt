@@ -1,4 +1,6 @@
 // Live instances: their place in the plan, and all of them as one flat array.
+#![tactic(auto)]
+
 ghost use Rattle.std.specs.Prelude.{◌≡◌, map, min, take};
 ghost use Rattle.model.specs.State.{most_stacks};
 ghost use Rattle.model.specs.Live.{live};
@@ -14,14 +16,14 @@ pub mod instance; // an instance moves on
 pub mod place; // what an instance's plan says at its place
 
 // An instance and what tells the event that it serves.
-#[derive(Drop)]
+#[derive(Clone, Copy)]
 pub struct Job {
     pub instance: Instance,
     pub origin: Origin,
 }
 
 // The first `count` items are the live instances.
-#[derive(Drop)]
+#[derive(Clone, Copy)]
 pub struct Jobs {
     pub items: [Job; 64],
     pub count: usize,

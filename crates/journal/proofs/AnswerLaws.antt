@@ -26,7 +26,6 @@ use Rattle.agent.specs.declared.Replied.{Replied}
 use Rattle.load.specs.Load.{Loads}
 use Rattle.agent.specs.Calls.{Calls}
 use Rattle.agent.specs.Chain.{Link, Chain}
-use Rattle.agent.specs.Chain as Chain
 use Rattle.agent.specs.Feed.{unreadable, Journal, start, unread, answered}
 use Rattle.agent.proofs.ChainLaws as ChainLaws
 use Rattle.journal.specs.Session.{Session}

@@ -25,7 +25,6 @@ use Rattle.load.specs.declared.Loaded.{Loaded}
 use Rattle.load.specs.Load.{bytes_of, Loads, is_well_formed_agent}
 use Rattle.agent.specs.Calls.{view_replied, Calls}
 use Rattle.agent.specs.Chain.{Link, Chain}
-use Rattle.agent.specs.Chain as Chain
 use Rattle.agent.specs.Feed.{respond_by, Journal}
 use Rattle.agent.proofs.ChainLaws.{Held, call_library, held_call, held_next, loaded_held, call_test}
 use Rattle.journal.specs.Session.{Session}

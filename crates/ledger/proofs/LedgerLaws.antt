@@ -29,7 +29,6 @@ use Rattle.agent.specs.declared.Replied.{Replied}
 use Rattle.load.specs.Load.{bytes_of, Holds, Loads, is_well_formed_agent}
 use Rattle.agent.specs.Calls.{view_replied, Calls}
 use Rattle.agent.specs.Chain.{Link, Chain}
-use Rattle.agent.specs.Chain as Chain
 use Rattle.formed.proofs.WellFormedLaws.{test_parts}
 use Rattle.trials.proofs.AlteredLaws.{change-removes, change-adds}
 use Rattle.change.specs.declared.Changed.{Changed}

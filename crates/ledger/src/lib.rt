@@ -1,4 +1,6 @@
 // A ledger's own copy of the belief table, kept beside an agent: after each call, the change call on the changes of its result.
+#![tactic(auto)]
+
 ghost use Rattle.std.specs.Prelude.{◌≡◌, ◌≤◌, take};
 ghost use Rattle.model.specs.State.{most_changes, view_result};
 ghost use Rattle.change.specs.Changes.{changed};

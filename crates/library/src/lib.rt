@@ -1,4 +1,6 @@
 // A library's bytes: reading them, and the parts of a plan. Every reader is total.
+#![tactic(auto)]
+
 use literal::Literal;
 
 pub mod bytes; // bytes.rt: numbers, literals, actions and branches at an offset
@@ -6,7 +8,7 @@ pub mod contents; // contents.rt: the numbers of plans and beliefs, the entries,
 pub mod plan; // plan.rt: the parts of a plan
 
 // An action of a success or failure list: kind 0 adds the literal, 1 removes it.
-#[derive(Drop)]
+#[derive(Clone, Copy)]
 pub struct Action {
     pub kind: u16,
     pub literal: Literal,
@@ -16,7 +18,7 @@ pub struct Action {
 pub const DIVIDE: u16 = 5;
 
 // A branch: kind 0 adds, 1 removes, 2 acts outside, 3 achieves, 4 queries, 5 divides; then the state that it leads to.
-#[derive(Drop)]
+#[derive(Clone, Copy)]
 pub struct Branch {
     pub kind: u16,
     pub literal: Literal,

@@ -56,7 +56,7 @@ abbrev pub Apart : Env → ℕ → ℕ → Type 0
 Apart env t u = value env t ≡ value env u → ⊥
 
 -- an unbound variable that a match leaves alone stays apart from what it was apart from
-apart_kept : {env next : Env} {term constant : ℕ} → TermMatch env term constant next → is_constant constant ≡ true → (t u : ℕ)
+apart_kept : {env : Env} {term constant : ℕ} {next : Env} → TermMatch env term constant next → is_constant constant ≡ true → (t u : ℕ)
     → is_constant (value env t) ≡ false → Apart env t term → Apart env t u → Apart next t u
 apart_kept (agrees k p) c t u v x y e = y e
 apart_kept {env} {term = term} {constant = constant} (binds k) c t u v x y e =

@@ -21,13 +21,13 @@ and_then (some a) next = next a
 
 -- the terms, from left to right
 abbrev pub match_terms : Literal → Literal → Env → Option Env
-match_terms l ground env =
-    and_then (match_term l.first ground.first env)
-    (λ one. and_then (match_term l.second ground.second one) (λ two. match_term l.third ground.third two))
+match_terms l known env =
+    and_then (match_term l.first known.first env)
+    (λ one. and_then (match_term l.second known.second one) (λ two. match_term l.third known.third two))
 
 -- the environment after the match, or none: sign and predicate agree, then the terms match
 unfoldable pub match_literal : Literal → Literal → Env → Option Env
-match_literal l ground env = cond (eqb l.head ground.head) (match_terms l ground env) none
+match_literal l known env = cond (eqb l.head known.head) (match_terms l known env) none
 
 -- what the code answers: where nothing matches, the environment that was given
 abbrev pub answer : Env → Option Env → Match

@@ -1,4 +1,6 @@
 // Terms, literals and environments, and matching a literal against a ground one.
+#![tactic(auto)]
+
 ghost use Rattle.std.specs.Prelude.{◌≡◌, ◌||◌, eqb};
 ghost use Rattle.std.proofs.Math.Option.{none};
 ghost use Rattle.literal.specs.Literal.{is_constant, is_ground, same, opposite};
@@ -25,7 +27,7 @@ pub const NEGATIVE: u16 = 32768;
 const NUMBERS: u64 = 65536;
 
 // A literal as it is stored: the predicate with its sign, and three terms, 0 where unused.
-#[derive(Drop)]
+#[derive(Clone, Copy)]
 pub struct Literal {
     pub head: u16,
     pub first: u16,
@@ -34,13 +36,13 @@ pub struct Literal {
 }
 
 // What each variable stands for: its constant, or itself while it is unbound.
-#[derive(Drop)]
+#[derive(Clone, Copy)]
 pub struct Env {
     pub terms: [u16; 8],
 }
 
 // Whether a literal matched, and the environment after it: the one given where it did not.
-#[derive(Drop)]
+#[derive(Clone, Copy)]
 pub struct Match {
     pub found: bool,
     pub env: Env,
@@ -202,23 +204,23 @@ fn no_match(env: Env) -> Match
 }
 
 // The literal against a ground one, from an environment.
-pub fn match_literal(l: Literal, ground: Literal, env: Env) -> Match
-    ensures { result ≡ answer env (match_literal l ground env) }
+pub fn match_literal(l: Literal, known: Literal, env: Env) -> Match
+    ensures { result ≡ answer env (match_literal l known env) }
 {
-    if l.head != ground.head {
+    if l.head != known.head {
         return no_match(env);
     }
-    let one = match_term(l.first, ground.first, env);
+    let one = match_term(l.first, known.first, env);
     if !one.found {
         return no_match(env);
     }
     let after_one = one.env;
-    let two = match_term(l.second, ground.second, after_one);
+    let two = match_term(l.second, known.second, after_one);
     if !two.found {
         return no_match(env);
     }
     let after_two = two.env;
-    let three = match_term(l.third, ground.third, after_two);
+    let three = match_term(l.third, known.third, after_two);
     if three.found {
         return three;
     }

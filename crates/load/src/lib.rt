@@ -1,4 +1,6 @@
 // Load: the agent's own copy of the library, and its first state.
+#![tactic(auto)]
+
 ghost use Rattle.std.specs.Prelude.{◌≡◌, ◌≤◌, length, take};
 ghost use Rattle.belief.specs.Beliefs.{most_beliefs};
 ghost use Rattle.library.specs.Layout.{beliefs_of};
@@ -13,7 +15,7 @@ use state::{MOST_BELOW, MOST_QUEUED, MOST_STACKS, Stack, State};
 pub const MOST_BYTES: usize = 19332;
 
 // The agent: its own copy of the library in the first `length` bytes, and its state.
-#[derive(Drop)]
+#[derive(Clone, Copy)]
 pub struct Agent {
     pub library: [u8; MOST_BYTES],
     pub length: usize,
@@ -21,7 +23,7 @@ pub struct Agent {
 }
 
 // What load answers: the refusal's number, 0 where there is none, and the agent.
-#[derive(Drop)]
+#[derive(Clone, Copy)]
 pub struct Loaded {
     pub refusal: u16,
     pub agent: Agent,

@@ -17,7 +17,6 @@ use Rattle.model.specs.History.{History, note}
 use Rattle.model.specs.Promises.{Promises}
 use Rattle.model.proofs.FormedLaws.{reform, like_live}
 use Rattle.model.proofs.FormedKept.{retable, step_formed}
-use Rattle.model.proofs.Step
 use Rattle.model.proofs.Step.{Step}
 use Rattle.model.proofs.EventWalk.{Moved}
 use Rattle.model.proofs.TurnWalk.{act-moved}

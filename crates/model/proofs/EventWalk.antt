@@ -39,7 +39,6 @@ use Rattle.model.proofs.OriginLaws.{origin_equal, origin_same}
 use Rattle.situation.proofs.ChosenLaws.{Apt, AptIf}
 use Rattle.model.proofs.ChangeLaws.{report-kept, report_does, report-few}
 use Rattle.model.proofs.FormedLaws.{like_live, reform, poster_found}
-use Rattle.model.proofs.Step
 use Rattle.model.proofs.Step.{Step}
 
 -- a reply is a step from queue and stacks in some order to queue and stacks in some order; its changes are few, took effect, and made the beliefs

@@ -47,7 +47,6 @@ use Rattle.model.proofs.LinkedLaws
 use Rattle.model.proofs.LinkedLaws.{job}
 use Rattle.model.proofs.LocalLaws.{number_new, origin_new, local_taken, local_goal, local_closed, local_marked, local_moved, local_popped, local_made, top_sound}
 use Rattle.model.proofs.FormedLaws.{stack, first_sound, first_stacked}
-use Rattle.model.proofs.Step
 use Rattle.model.proofs.Step.{Step}
 
 -- an instance that is active again, where it was

@@ -37,7 +37,6 @@ use Rattle.model.proofs.LocalLaws.{top_sound, local_popped}
 use Rattle.model.proofs.FormedLaws.{first_sound}
 use Rattle.model.proofs.Invariant.{is_open, is_early, is_lost, Invariant, id_once, queue_once}
 use Rattle.model.proofs.InvariantSteps
-use Rattle.model.proofs.Step
 use Rattle.model.proofs.Step.{Step}
 
 -- ---- Looking back

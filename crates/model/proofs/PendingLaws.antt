@@ -3,7 +3,7 @@
 use Prim.Native.Nat.{ℕ, ◌+◌, ◌≤◌}
 use mathlib.Core.Path.{◌≡◌, refl, sym, ap, ◌∙◌}
 use mathlib.Core.List.{List}
-use mathlib.Core.Bool.{Bool, true, false, not, ◌&&◌, ◌||◌}
+use mathlib.Core.Bool.{Bool, true, false, not, ◌||◌}
 use native.Mathlib.Omega.{arith}
 use lib.Dec.{ltb}
 use lib.ListN.{length, get_or}
@@ -11,7 +11,7 @@ use borrow.Author.Tests.{ltb-true, ltb-false, not-true, not-false}
 use Rattle.lists.specs.Search.{any, position}
 use Rattle.lists.specs.Counts.{bit, total, count}
 use Rattle.lists.proofs.BoolLaws.{by_cases, and_parts}
-use Rattle.lists.proofs.CountLaws.{bit_left, bit_every, total-add, total_le, total-length, total_same, total_swap, total_unless}
+use Rattle.lists.proofs.CountLaws.{bit_left, total-add, total_le, total-length, total_same, total_swap, total_unless}
 use Rattle.lists.proofs.LikeLaws.{like_refl, like_at}
 use Rattle.lists.proofs.PlaceLaws.{passes_at}
 use Rattle.lists.proofs.SearchLaws.{position_le, any-position}

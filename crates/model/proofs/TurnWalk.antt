@@ -28,7 +28,6 @@ use Rattle.model.specs.State.{most_actions, Intention, AgentState, Call, report,
 use Rattle.model.specs.Instance.{is_waiting, is_suspended, plan_of, past_branch}
 use Rattle.model.specs.Live.{is_of, event_on, live, is_ready}
 use Rattle.model.specs.Changes.{are_effective}
-use Rattle.model.specs.Try
 use Rattle.model.specs.Try.{Try, tried}
 use Rattle.model.specs.End.{served_by, close_event, marked, mark_event, popped, end_top, succeed, fail}
 use Rattle.model.specs.Turn.{Move, fails, succeeds, tries, next_move, height_of, turn_by, is_running, turn}
@@ -42,7 +41,6 @@ use Rattle.model.proofs.ChangeLaws.{effects-kept, effects_do, effects-few}
 use Rattle.model.proofs.InstanceLaws.{active_awake, Branching, MoveOk, move_ok}
 use Rattle.model.proofs.TryLaws.{TryOk, attempt_ok}
 use Rattle.model.proofs.FormedLaws.{stack, reform, beliefs_ground, first_sound, first_stacked, first_served}
-use Rattle.model.proofs.Step
 use Rattle.model.proofs.Step.{Step}
 use Rattle.model.proofs.EventWalk.{Moved, stays, report-moved, literal_ground, take_up-moved}
 

@@ -16,7 +16,6 @@ use Rattle.model.specs.declared.Origin.TheVariants.{External, Goal}
 use Rattle.model.specs.State.{most_number, Intention, AgentState, Call, report, cycle, outcome, refuse}
 use Rattle.model.specs.Report.{report_refusal, report_changes, take_in, report_by, reported}
 use Rattle.model.specs.Event.{make, close, take_up}
-use Rattle.model.specs.Try
 use Rattle.model.specs.Try.{Try, attempt, tried}
 use Rattle.model.specs.End.{end_top, succeed, fail}
 use Rattle.model.specs.Turn.{Move, fails, succeeds, tries, next_move, height_of, turn_by, turn}

@@ -154,7 +154,7 @@ module _ (library : Library) (s : AgentState) where
   pub formed_test : WellFormed library s → is_well_formed library s ≡ true
   unfolding is_well_formed are_events is_event_sound are_instances is_instance are_served
   formed_test w =
-      and_both (are_beliefs s.beliefs) _ w.table (and_both (leb s.taken most_number) _ (le-leb _ _ w.taken-small) (and_both (leb s.made most_number) _ (le-leb _ _ w.made-small)
+      and_both (are_beliefs s.beliefs) _ w.table (and_both (leb s.taken most_number) _ (le-leb _ _ w.taken_small) (and_both (leb s.made most_number) _ (le-leb _ _ w.made_small)
       (and_both (are_events library s.taken s.queue) _ events (and_both (are_instances library s.made J) _ instances
       (and_both (leb (length s.stacks) most_stacks) _ (le-leb _ _ w.few) (and_both (all is_stack s.stacks) _ (every_all is_stack s.stacks w.stacked) services))))))
     where

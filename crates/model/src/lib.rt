@@ -1,4 +1,6 @@
 // The agent's data: events, instances and what a call answers. What the calls do is in specs/.
+#![tactic(auto)]
+
 use belief::Change;
 use literal::{Env, Literal};
 
@@ -18,7 +20,7 @@ pub const MOST_ACTIONS: usize = 4;
 pub const MOST_CHANGES: usize = 8;
 
 // What an event is told apart by: an external number, or a goal's instance, state and branch.
-#[derive(Drop)]
+#[derive(Clone, Copy)]
 pub enum Origin {
     External(Number),
     Goal {
@@ -37,7 +39,7 @@ pub const ACTION: u16 = 2;
 pub const ACHIEVE: u16 = 3;
 
 // An event: kind 0 belief added, 1 belief removed, 2 told, 3 achieve, 4 query; the plans that failed for it are the bits of `failed`.
-#[derive(Drop)]
+#[derive(Clone, Copy)]
 pub struct Event {
     pub origin: Origin,
     pub kind: u16,
@@ -46,7 +48,7 @@ pub struct Event {
 }
 
 // An instance runs, waits for an outcome, or is suspended on a goal.
-#[derive(Drop)]
+#[derive(Clone, Copy)]
 pub enum Status {
     Active,
     Waiting,
@@ -55,7 +57,7 @@ pub enum Status {
 
 // An instance of a plan: its state, and how many branches it has tried there.
 // While it waits or is suspended its branch is the last one tried.
-#[derive(Drop)]
+#[derive(Clone, Copy)]
 pub struct Instance {
     pub id: Number,
     pub plan: u16,
@@ -66,7 +68,7 @@ pub struct Instance {
 }
 
 // What a call answers: a case for each letter of the journal, two for M.
-#[derive(Drop)]
+#[derive(Clone, Copy)]
 pub enum Answer {
     Taken(Number),
     Idle,
@@ -118,7 +120,7 @@ pub enum Answer {
 }
 
 // A result: the answer, and beside it the belief changes that took effect, in order, the first `count` of the array.
-#[derive(Drop)]
+#[derive(Clone, Copy)]
 pub struct Answered {
     pub answer: Answer,
     pub changes: [Change; MOST_CHANGES],

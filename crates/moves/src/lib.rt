@@ -1,4 +1,6 @@
 // What a call does to the event queue and to the stacks, told before it is done.
+#![tactic(auto)]
+
 ghost use Rattle.std.specs.Prelude.{◌≡◌};
 ghost use Rattle.moves.specs.Moves.{taken_by, made_by};
 
@@ -8,7 +10,7 @@ pub mod queue; // the queue's array and count after a move
 pub mod stacks; // the stacks' array and count after a move
 
 // The queue keeps its events; takes one more; loses the one at a place or of an origin; or a plan has failed for the one of an origin.
-#[derive(Drop)]
+#[derive(Clone, Copy)]
 pub enum QueueMove {
     Keep,
     Enqueue(Event),
@@ -19,7 +21,7 @@ pub enum QueueMove {
 
 // The stacks stay; one is opened, last in turn; one stands in the place of another; one goes last in turn, in place of the one at a place;
 // or the one at a place goes.
-#[derive(Drop)]
+#[derive(Clone, Copy)]
 pub enum StackMove {
     Keep,
     Open,
@@ -29,7 +31,7 @@ pub enum StackMove {
 }
 
 // The numbers stay, or an external event was taken or an instance made under a number.
-#[derive(Drop)]
+#[derive(Clone, Copy)]
 pub enum Numbering {
     Keep,
     Taken(Number),

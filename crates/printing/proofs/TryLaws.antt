@@ -1,64 +1,42 @@
--- Which answers are tries, by the place of an answer among the enum's cases, as the code's match tells it.
-use Prim.Native.Nat.{ℕ, ◌≤◌}
-use native.Mathlib.Omega.{arith}
-use mathlib.Core.Path.{◌≡◌, refl, sym, ◌∙◌}
-use mathlib.Core.Bool.{true, ◌&&◌}
-use mathlib.Core.List.{[], ◌∷◌}
-use mathlib.Core.Logic.{inl, inr}
-use lib.Dec.{leb}
-use borrow.Author.Tests.{le-leb, leb-true}
-use denote.Enum.Declared.{tag_of}
-use types.Run.{OneOf}
-use Rattle.lists.proofs.BoolLaws.{and_parts, and_both}
-use Rattle.model.specs.contracts.Answer.{the_type}
+-- Which answers are tries, by the cases that the code's match has left.
+use Rattle.std.proofs.Common.{◌≡◌, ℕ, true, refl}
+use Rattle.literal.specs.declared.Literal.{Literal}
 use Rattle.model.specs.declared.Answer.{Answer}
 use Rattle.model.specs.declared.Answer.TheVariants.{Taken, Idle, Dropped, Unmet, MadeExternal, MadeGoal, Stepped, Missed, Done, Posted, Succeeded, Failed, Refused}
 use Rattle.printing.specs.LineText.{is_try}
 
--- tries are the cases 6 to 9
-try_places : (answer : Answer) → is_try answer ≡ (leb 6 (tag_of the_type answer) && leb (tag_of the_type answer) 9)
-try_places (Taken n) = refl
-try_places Idle = refl
-try_places (Dropped n failures) = refl
-try_places (Unmet i s b failures) = refl
-try_places (MadeExternal i plan n) = refl
-try_places (MadeGoal i plan poster) = refl
-try_places (Stepped i s b next) = refl
-try_places (Missed i s b) = refl
-try_places (Done i s b l) = refl
-try_places (Posted i s b) = refl
-try_places (Succeeded i) = refl
-try_places (Failed i) = refl
-try_places (Refused n) = refl
-
-pub tries : (answer : Answer) → OneOf (6 ∷ 7 ∷ 8 ∷ 9 ∷ []) (tag_of the_type answer) → is_try answer ≡ true
-tries answer one = try_places answer ∙ and_both (leb 6 (tag_of the_type answer)) _ (le-leb _ _ (low _ one)) (le-leb _ _ (high _ one))
-  where
-    low : (x : ℕ) → OneOf (6 ∷ 7 ∷ 8 ∷ 9 ∷ []) x → 6 ≤ x
-    low x (inl same) = omega arith
-    low x (inr (inl same)) = omega arith
-    low x (inr (inr (inl same))) = omega arith
-    low x (inr (inr (inr same))) = omega arith
-
-    high : (x : ℕ) → OneOf (6 ∷ 7 ∷ 8 ∷ 9 ∷ []) x → x ≤ 9
-    high x (inl same) = omega arith
-    high x (inr (inl same)) = omega arith
-    high x (inr (inr (inl same))) = omega arith
-    high x (inr (inr (inr same))) = omega arith
+-- where nine cases are ruled out, the answer is a try
+pub tries : (answer : Answer) → ((n : ℕ) → answer ≡ Taken n → ⊥) → (answer ≡ Idle → ⊥) → ((n failures : ℕ) → answer ≡ Dropped n failures → ⊥)
+    → ((i s b failures : ℕ) → answer ≡ Unmet i s b failures → ⊥) → ((i plan n : ℕ) → answer ≡ MadeExternal i plan n → ⊥)
+    → ((i plan poster : ℕ) → answer ≡ MadeGoal i plan poster → ⊥) → ((i : ℕ) → answer ≡ Succeeded i → ⊥) → ((i : ℕ) → answer ≡ Failed i → ⊥)
+    → ((n : ℕ) → answer ≡ Refused n → ⊥) → is_try answer ≡ true
+tries (Taken n) taken idle dropped unmet external goal succeeded failed refused = absurd (taken n refl)
+tries Idle taken idle dropped unmet external goal succeeded failed refused = absurd (idle refl)
+tries (Dropped n failures) taken idle dropped unmet external goal succeeded failed refused = absurd (dropped n failures refl)
+tries (Unmet i s b failures) taken idle dropped unmet external goal succeeded failed refused = absurd (unmet i s b failures refl)
+tries (MadeExternal i plan n) taken idle dropped unmet external goal succeeded failed refused = absurd (external i plan n refl)
+tries (MadeGoal i plan poster) taken idle dropped unmet external goal succeeded failed refused = absurd (goal i plan poster refl)
+tries (Stepped i s b next) taken idle dropped unmet external goal succeeded failed refused = refl
+tries (Missed i s b) taken idle dropped unmet external goal succeeded failed refused = refl
+tries (Done i s b l) taken idle dropped unmet external goal succeeded failed refused = refl
+tries (Posted i s b) taken idle dropped unmet external goal succeeded failed refused = refl
+tries (Succeeded i) taken idle dropped unmet external goal succeeded failed refused = absurd (succeeded i refl)
+tries (Failed i) taken idle dropped unmet external goal succeeded failed refused = absurd (failed i refl)
+tries (Refused n) taken idle dropped unmet external goal succeeded failed refused = absurd (refused n refl)
 
 -- no other case is a try
-pub no_other : (answer : Answer) → is_try answer ≡ true → OneOf (0 ∷ 1 ∷ 2 ∷ 3 ∷ 4 ∷ 5 ∷ 10 ∷ 11 ∷ 12 ∷ []) (tag_of the_type answer) → ⊥
-no_other answer is one =
-    let parts = and_parts (leb 6 (tag_of the_type answer)) _ (sym (try_places answer) ∙ is) in
-    outside _ (leb-true _ _ parts.0) (leb-true _ _ parts.1) one
-  where
-    outside : (x : ℕ) → 6 ≤ x → x ≤ 9 → OneOf (0 ∷ 1 ∷ 2 ∷ 3 ∷ 4 ∷ 5 ∷ 10 ∷ 11 ∷ 12 ∷ []) x → ⊥
-    outside x low high (inl same) = omega arith
-    outside x low high (inr (inl same)) = omega arith
-    outside x low high (inr (inr (inl same))) = omega arith
-    outside x low high (inr (inr (inr (inl same)))) = omega arith
-    outside x low high (inr (inr (inr (inr (inl same))))) = omega arith
-    outside x low high (inr (inr (inr (inr (inr (inl same)))))) = omega arith
-    outside x low high (inr (inr (inr (inr (inr (inr (inl same))))))) = omega arith
-    outside x low high (inr (inr (inr (inr (inr (inr (inr (inl same)))))))) = omega arith
-    outside x low high (inr (inr (inr (inr (inr (inr (inr (inr same)))))))) = omega arith
+pub no_other : (answer : Answer) → is_try answer ≡ true → ((i s b next : ℕ) → answer ≡ Stepped i s b next → ⊥)
+    → ((i s b : ℕ) → answer ≡ Missed i s b → ⊥) → ((i s b : ℕ) (l : Literal) → answer ≡ Done i s b l → ⊥) → ((i s b : ℕ) → answer ≡ Posted i s b → ⊥) → ⊥
+no_other (Taken n) is stepped missed done posted = cc
+no_other Idle is stepped missed done posted = cc
+no_other (Dropped n failures) is stepped missed done posted = cc
+no_other (Unmet i s b failures) is stepped missed done posted = cc
+no_other (MadeExternal i plan n) is stepped missed done posted = cc
+no_other (MadeGoal i plan poster) is stepped missed done posted = cc
+no_other (Stepped i s b next) is stepped missed done posted = stepped i s b next refl
+no_other (Missed i s b) is stepped missed done posted = missed i s b refl
+no_other (Done i s b l) is stepped missed done posted = done i s b l refl
+no_other (Posted i s b) is stepped missed done posted = posted i s b refl
+no_other (Succeeded i) is stepped missed done posted = cc
+no_other (Failed i) is stepped missed done posted = cc
+no_other (Refused n) is stepped missed done posted = cc

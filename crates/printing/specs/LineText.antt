@@ -1,5 +1,5 @@
 -- The bytes of a line of the journal (document 01, "Journal").
-use Rattle.std.specs.Prelude.{ℕ, ◌+◌, ◌*◌, ◌%◌, ◌≡◌, Bool, true, false, cond, ◌&&◌, List, [], ◌∷◌, ◌++◌, ltb, eqb, take}
+use Rattle.std.specs.Prelude.{ℕ, ◌+◌, ◌*◌, ◌%◌, ◌≡◌, Bool, true, false, cond, ◌&&◌, List, [], ◌∷◌, ◌++◌, ltb, eqb}
 use Rattle.lists.specs.Counts.{each}
 use Rattle.lists.specs.Search.{any, all}
 use Rattle.literal.specs.declared.Literal.{Literal}

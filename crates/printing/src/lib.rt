@@ -1,4 +1,6 @@
 // A result to its line of the journal, into a lent buffer.
+#![tactic(auto)]
+
 ghost use Rattle.std.specs.Prelude.{◌≡◌, true, ◌+◌, ◌*◌, ◌≤◌, ◌<◌, min, ◌∷◌, [], ◌++◌, length, take};
 ghost use Rattle.model.specs.State.{most_changes, view_result};
 ghost use Rattle.lists.specs.Counts.{each};
@@ -131,7 +133,7 @@ fn sign_of(head: u16) -> u8
 fn put_literal(out: &mut [u8], at: usize, l: Literal) -> usize
     requires { at + 25 ≤ length out.old }
     ensures wrote { Wrote 25 out.old out.new at result (literal_text l) }
-    ensures l_value { is_head l ≡ true }
+    ensures fits { is_head l ≡ true }
 {
     let sign = sign_of(l.head);
     let a = put(out, at, b' ');
@@ -150,7 +152,7 @@ fn letter_of(removes: bool) -> u8
 fn put_change(out: &mut [u8], at: usize, c: Change) -> usize
     requires { at + most_change ≤ length out.old }
     ensures wrote { Wrote most_change out.old out.new at result (change_text c) }
-    ensures c_value { fits_change c ≡ true }
+    ensures fits { fits_change c ≡ true }
 {
     let l = c.literal;
     let letter = letter_of(c.removes);
@@ -163,7 +165,7 @@ fn put_change(out: &mut [u8], at: usize, c: Change) -> usize
 fn put_changes(out: &mut [u8], at: usize, changes: [Change; MOST_CHANGES], n: usize) -> usize
     requires { (n ≤ most_changes) × (at + most_change * most_changes ≤ length out.old) }
     ensures wrote { Wrote (most_change * most_changes) out.old out.new at result (each change_text (take n changes)) }
-    ensures changes_value { all fits_change (take n changes) ≡ true }
+    ensures fits { all fits_change (take n changes) ≡ true }
 {
     let mut o = at;
     let mut i: usize = 0;
@@ -220,10 +222,10 @@ fn put_made(out: &mut [u8], at: usize, instance: Number, plan: u16, word: u8, n:
 
 // S, B, D and G: what came of a branch.
 fn put_try(out: &mut [u8], at: usize, answer: Answer) -> usize
-    requires answer_value { is_try answer ≡ true }
-    requires most_fields_in_bounds { at + most_fields ≤ length out.old }
+    requires is_a_try { is_try answer ≡ true }
+    requires room { at + most_fields ≤ length out.old }
     ensures wrote { Wrote most_fields out.old out.new at result (answer_text answer) }
-    ensures answer_value_2 { all fits_field (fields_of answer) ≡ true }
+    ensures fits { all fits_field (fields_of answer) ≡ true }
 {
     match answer {
         Answer::Stepped {
@@ -261,7 +263,7 @@ fn put_try(out: &mut [u8], at: usize, answer: Answer) -> usize
 fn put_answer(out: &mut [u8], at: usize, answer: Answer) -> usize
     requires { at + most_fields ≤ length out.old }
     ensures wrote { Wrote most_fields out.old out.new at result (answer_text answer) }
-    ensures answer_value { all fits_field (fields_of answer) ≡ true }
+    ensures fits { all fits_field (fields_of answer) ≡ true }
 {
     match answer {
         Answer::Taken(n) => put_one(out, at, b'T', n),

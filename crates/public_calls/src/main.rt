@@ -1,4 +1,6 @@
 // Each public call on small inputs: document 01's journal by the three calls, a ledger's copy beside it, plan part and its companion.
+#![tactic(auto)]
+
 use agent::{Replied, calls};
 use belief::Beliefs;
 use libc::{STDIN_FILENO, STDOUT_FILENO};
@@ -7,7 +9,7 @@ use load::Agent;
 use model::Answered;
 
 // An agent, and a ledger's copy of its belief table.
-#[derive(Drop)]
+#[derive(Clone, Copy)]
 struct Books {
     agent: Agent,
     copy: Beliefs,

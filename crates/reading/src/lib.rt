@@ -1,4 +1,6 @@
 // A line of the input, without its newline, to a call.
+#![tactic(auto)]
+
 ghost use Rattle.std.specs.Prelude.{◌≡◌, ◌≤◌, length};
 ghost use Rattle.reading.specs.Call.{numeral, number, most_id_digits, largest_number, head_of, terms_of, report_of, outcome_of, call_of};
 ghost use Rattle.reading.specs.Spoken.{meaning, number_in};
@@ -24,7 +26,7 @@ const LARGEST_PREDICATE: u32 = 32767;
 const NEGATIVE: u32 = 32768;
 
 // What a line says: one of the three calls, or nothing.
-#[derive(Drop)]
+#[derive(Clone, Copy)]
 pub enum Spoken {
     Report { kind: u16, literal: Literal },
     Cycle,
@@ -33,21 +35,21 @@ pub enum Spoken {
 }
 
 // What a word says: a number, or something else.
-#[derive(Drop)]
+#[derive(Clone, Copy)]
 pub enum Word {
     Number(u16),
     Other,
 }
 
 // Digits from a place on: the number that they say, and where they stop.
-#[derive(Drop)]
+#[derive(Clone, Copy)]
 struct Digits {
     value: u64,
     stop: usize,
 }
 
 // A field that is a number, and where the next field begins: one past the line's end where there is none.
-#[derive(Drop)]
+#[derive(Clone, Copy)]
 enum Numeral {
     Is(u32, usize),
     Bad,

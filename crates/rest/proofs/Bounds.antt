@@ -1,5 +1,5 @@
 -- In a well-formed state the instances have spent no more than the events may cost, and what the goals may cost their posters have set aside.
-use Prim.Native.Nat.{ℕ, zero, suc, ◌+◌, ◌-◌, ◌*◌, ◌≤◌, ◌<◌}
+use Prim.Native.Nat.{ℕ, suc, ◌+◌, ◌-◌, ◌*◌, ◌≤◌, ◌<◌}
 use mathlib.Core.Path.{◌≡◌, refl, sym, ap, ◌∙◌}
 use mathlib.Core.List.{List, [], ◌∷◌, ◌++◌}
 use mathlib.Core.Bool.{Bool, true, false, ◌&&◌, ◌||◌, not}
@@ -9,11 +9,11 @@ use lib.Dec.{eqb}
 use lib.ListN.{length}
 use borrow.Author.Tests.{eqb-true, not-true}
 use Rattle.lists.specs.Search.{any}
-use Rattle.lists.specs.Counts.{bit, total, count, Every, each}
+use Rattle.lists.specs.Counts.{bit, total, count, Every}
 use Rattle.lists.proofs.BoolLaws.{by_cases, and_parts}
-use Rattle.lists.proofs.CountLaws.{bit_left, bit_right, bit_every, total-append, total-each, total_same, total_le, total-add, total_zero, total_unless, total_swap}
+use Rattle.lists.proofs.CountLaws.{bit_left, bit_right, bit_every, total-append, total_same, total_le, total-add, total_zero, total_unless, total_swap}
 use Rattle.lists.proofs.TestCounts.{any_some}
-use Rattle.lists.proofs.LikeLaws.{Like, like_refl, like_turn, like_then}
+use Rattle.lists.proofs.LikeLaws.{Like}
 use Rattle.library.specs.Plan.{Library}
 use Rattle.situation.specs.FailedSet.{has}
 use Rattle.model.specs.declared.Event.{Event}
@@ -26,7 +26,7 @@ use Rattle.model.specs.State.{Intention, AgentState}
 use Rattle.model.specs.Instance.{is_active, is_suspended, plan_of, branch_of}
 use Rattle.model.specs.Live.{is_goal, is_external, same_origin, is_of, goal_of, Job, jobs_on, live, serves}
 use Rattle.model.specs.WellFormed.{is_sound, is_stack, is_served, is_posted, has_poster}
-use Rattle.model.specs.Formed.{Sound, Stacked, WellFormed}
+use Rattle.model.specs.Formed.{Sound, WellFormed}
 use Rattle.rest.specs.Rest.{W}
 use Rattle.model.proofs.OriginLaws.{eqb_same, origin_equal, same_turned}
 use Rattle.model.proofs.InstanceLaws.{tried-some, sound_parts, stack-parts}

@@ -18,7 +18,7 @@ use Rattle.model.specs.declared.Instance.{Instance}
 use Rattle.model.specs.declared.Status.{Status}
 use Rattle.model.specs.declared.Status.TheVariants.{Active, Waiting, Suspended}
 use Rattle.model.specs.declared.Origin.{Origin}
-use Rattle.model.specs.declared.Origin.TheVariants.{External, Goal}
+use Rattle.model.specs.declared.Origin.TheVariants.{External}
 use Rattle.model.specs.State.{Intention}
 use Rattle.model.specs.Instance.{is_suspended}
 use Rattle.model.specs.Live.{same_origin, goal_of, event_on, Job}

@@ -1,18 +1,18 @@
 -- What the bound means to a loft: once it is spent nothing further counts, and cycles alone spend it or are at rest before.
-use Prim.Native.Nat.{ℕ, ◌+◌, ◌≤◌, ◌<◌}
-use mathlib.Core.Path.{◌≡◌, refl, sym, ap, subst, ◌∙◌}
-use mathlib.Core.Bool.{Bool, true, false, not, ◌||◌}
-use mathlib.Core.List.{List, [], ◌∷◌, ◌++◌, map, map-append}
+use Prim.Native.Nat.{◌≤◌, ◌<◌}
+use mathlib.Core.Path.{◌≡◌, refl, ap, subst, ◌∙◌}
+use mathlib.Core.Bool.{Bool, true, false, not}
+use mathlib.Core.List.{List, [], ◌∷◌, ◌++◌, map}
 use native.Mathlib.Omega.{arith}
 use lib.Dec.{ltb}
 use lib.ListN.{length}
-use borrow.Author.Tests.{ltb-true, ltb-false, not-false}
-use Rattle.lists.specs.Counts.{bit, count, Every}
+use borrow.Author.Tests.{ltb-true, ltb-false}
+use Rattle.lists.specs.Counts.{bit, Every}
 use Rattle.lists.proofs.BoolLaws.{by_cases, both_ways}
 use Rattle.lists.proofs.CountLaws.{bit_every, total-append, total_le}
 use Rattle.library.specs.Plan.{Library}
 use Rattle.model.specs.State.{AgentState, Call, report, cycle, outcome}
-use Rattle.model.specs.Calls.{call, is_refusal, is_idle}
+use Rattle.model.specs.Calls.{call}
 use Rattle.model.specs.Run.{Entry, entry, IsChain}
 use Rattle.model.proofs.UnchangedLaws.{call-unchanged}
 use Rattle.rest.specs.Rest.{is_report, is_cycle, is_work, work_in, bound_of, RestsWithin, AtRest}

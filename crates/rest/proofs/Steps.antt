@@ -1,16 +1,15 @@
 -- Every step of a cycle or an outcome that counts lowers the potential by one or more; no other raises it.
-use Prim.Native.Nat.{ℕ, suc, ◌+◌, ◌*◌, ◌≤◌, ◌<◌}
+use Prim.Native.Nat.{ℕ, suc, ◌+◌, ◌≤◌, ◌<◌}
 use mathlib.Core.Path.{◌≡◌, refl, sym, ap, ◌∙◌}
 use mathlib.Core.List.{List, [], ◌∷◌, ◌++◌}
-use mathlib.Core.Bool.{Bool, true, false, ◌&&◌, not}
+use mathlib.Core.Bool.{Bool, true, false}
 use native.Mathlib.Omega.{arith}
 use lib.Dec.{eqb}
 use lib.ListN.{length}
 use borrow.Author.Tests.{not-true}
-use Rattle.lists.specs.Search.{any}
-use Rattle.lists.specs.Counts.{bit, total, count, each}
+use Rattle.lists.specs.Counts.{bit, count}
 use Rattle.lists.proofs.BoolLaws.{both_ways, and_parts}
-use Rattle.lists.proofs.CountLaws.{bit_left, bit_right, bit_every, total-append, total_le}
+use Rattle.lists.proofs.CountLaws.{bit_left, bit_right, bit_every, total_le}
 use Rattle.lists.proofs.TestCounts.{any_some}
 use Rattle.lists.proofs.LikeLaws.{Like, like_each}
 use Rattle.literal.specs.declared.Literal.{Literal}
@@ -30,17 +29,15 @@ use Rattle.model.specs.Try.{new_goal}
 use Rattle.model.specs.End.{marked}
 use Rattle.model.specs.WellFormed.{is_served}
 use Rattle.model.specs.Formed.{Acceptable, Sound, Formed}
-use Rattle.model.specs.Calls.{is_idle}
 use Rattle.rest.specs.Rest.{is_report, is_work}
-use Rattle.model.proofs.OriginLaws.{origin_same, same_origin_lem, same_turned, goal_tried}
+use Rattle.model.proofs.OriginLaws.{same_origin_lem, same_turned, goal_tried}
 use Rattle.model.proofs.InstanceLaws.{waiting-awake, waiting_idle, suspended_idle, tried-some, past_up}
 use Rattle.model.proofs.LinkedLaws.{job, unposted}
 use Rattle.model.proofs.LocalLaws.{top_sound, local_popped}
 use Rattle.model.proofs.FormedLaws.{stack, first_sound, first_stacked}
-use Rattle.model.proofs.Step
 use Rattle.model.proofs.Step.{Step}
-use Rattle.rest.proofs.Costs.{behind, Small, behind-tried, behind-past, behind_stepped, behind_same}
-use Rattle.rest.proofs.Potential.{Tier, tier, tiers_on, tiers_of, tiers, status_of, asks, height, owed, started, started_le, spent, paid, spent-tried, spent_posted, spent-kept, owed_like, paid_like, asks_none, height_external, height_goal, Fall, fall_moved, fall_posted, fall_woken, fall_made, fall_dropped, fall_failed, fall_ended, fall_stepped}
+use Rattle.rest.proofs.Costs.{Small, behind-tried, behind-past, behind_stepped, behind_same}
+use Rattle.rest.proofs.Potential.{Tier, tier, tiers_on, tiers_of, tiers, status_of, asks, height, started, started_le, spent, spent-tried, spent_posted, spent-kept, owed_like, paid_like, asks_none, height_external, height_goal, Fall, fall_moved, fall_posted, fall_woken, fall_made, fall_dropped, fall_failed, fall_ended, fall_stepped}
 use Rattle.rest.proofs.Bounds.{jobs-all}
 
 -- ---- Order does not matter

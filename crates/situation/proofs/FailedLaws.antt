@@ -167,7 +167,7 @@ unfolding count_below
 count_low zero j set = refl
 count_low (suc n) j set =
     let e : j + suc n ≡ suc j + n = omega arith in
-    rw e (ap₂ (λ (a b : ℕ). a + b) (count_low n (suc j) set) (counted (set % 2 ^ (suc j + n)) n ∙ bit_low set n j ∙ sym (counted set n)))
+    ap (λ m. count_below (set % 2 ^ m) (suc n)) e ∙ (ap₂ (λ (a b : ℕ). a + b) (count_low n (suc j) set) (counted (set % 2 ^ (suc j + n)) n ∙ bit_low set n j ∙ sym (counted set n)))
 
 ones_bit : (b : ℕ) → b < 2 → ones b ≡ b
 unfolding ones

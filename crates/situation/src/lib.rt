@@ -1,4 +1,6 @@
 // Situations: the search for a solution, what a literal asks of the beliefs, and the choice of a plan for an event.
+#![tactic(auto)]
+
 ghost use Rattle.std.specs.Prelude.{◌≡◌, ◌+◌, ◌*◌, ◌<◌, ◌^◌};
 ghost use mathlib.Core.List.{foldl};
 ghost use Rattle.literal.specs.Environment.{empty_env};
@@ -23,21 +25,21 @@ pub mod failed; // the set of an event's failed plans
 const LITERAL_BYTES: usize = 8;
 
 // The plan that was chosen, by its number.
-#[derive(Drop)]
+#[derive(Clone, Copy)]
 pub enum Choice {
     Plan(u16),
     None,
 }
 
 // The choice, and the environment that its instance starts with: the empty one where there is none.
-#[derive(Drop)]
+#[derive(Clone, Copy)]
 pub struct Selected {
     pub choice: Choice,
     pub env: Env,
 }
 
 // What a search keeps of the solutions: by 0 the first, by v + 1 the first with the least value of Vv.
-#[derive(Drop)]
+#[derive(Clone, Copy)]
 pub struct Rule {
     pub least: u16,
 }

@@ -1,4 +1,6 @@
 // The agent's state by value: arrays with counts. What they mean is the view of specs/View.
+#![tactic(auto)]
+
 use belief::Beliefs;
 use model::{Event, Instance, Number};
 
@@ -15,7 +17,7 @@ pub const MOST_STACKS: usize = 8;
 pub const MOST_BELOW: usize = 7;
 
 // A stack is never empty. The first `depth` of `below` are the instances under the top, the bottom first.
-#[derive(Drop)]
+#[derive(Clone, Copy)]
 pub struct Stack {
     pub top: Instance,
     pub below: [Instance; MOST_BELOW],
@@ -25,7 +27,7 @@ pub struct Stack {
 
 // The first `queued` events are the queue, the first `stacked` stacks the stacks in turn order;
 // places past a count are no part of the state.
-#[derive(Drop)]
+#[derive(Clone, Copy)]
 pub struct State {
     pub beliefs: Beliefs,
     pub queue: [Event; MOST_QUEUED],

@@ -188,4 +188,4 @@ module _ (s : State) (kind : ℕ) (l : Literal) (p : Hears s kind l) (t : Step)
 -- a report that is not refused has a number left
 pub number_left : (beliefs : Beliefs) (events : List Event) (queued taken kind : ℕ) (l : Literal) (refusal : ℕ)
     → refusal ≡ report_refusal (heard beliefs events queued taken) kind l → refusal ≡ 0 → taken < most_number
-number_left beliefs events queued taken kind l refusal e h = spent (heard beliefs events queued taken) kind l (sym e ∙ h)
+number_left beliefs events queued taken kind l n e h = spent (heard beliefs events queued taken) kind l (sym e ∙ h)

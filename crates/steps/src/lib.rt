@@ -1,4 +1,6 @@
 // Steps: what a call answers and what it does to the state, decided before anything changes; those of a report and of an outcome.
+#![tactic(auto)]
+
 use model::Answered;
 use state::State;
 
@@ -9,7 +11,7 @@ pub mod report; // a report of a device
 pub mod step; // what a call decides
 
 // The state after a call, and its result.
-#[derive(Drop)]
+#[derive(Clone, Copy)]
 pub struct Acted {
     pub state: State,
     pub result: Answered,

@@ -11,7 +11,7 @@ use trials::changes;
 use trials::changes::Altered;
 
 // The answer, the belief table after the changes, the moves of queue and stacks with the stack that is put, and a new number.
-#[derive(Drop)]
+#[derive(Clone, Copy)]
 pub struct Step {
     pub answer: Answer,
     pub altered: Altered,

@@ -1,6 +1,6 @@
 -- An input that comes in chunks (document 01, "Journal"): answers, each of which its contract ensures of the carry and the place before it.
 use Rattle.std.specs.Prelude.{ℕ, ◌≡◌, List, [], ◌∷◌, drop}
-use Rattle.std.proofs.Math.Option.{Option, none, some}
+use Rattle.std.proofs.Math.Option.{Option, some}
 use Rattle.lists.specs.Counts.{each}
 use Rattle.model.specs.State.{Call}
 use Rattle.reading.specs.declared.Spoken.{Spoken}

@@ -1,4 +1,6 @@
 // Lines out of a stream that comes in chunks: the call of each line, and the line so far between chunks.
+#![tactic(auto)]
+
 ghost use Rattle.std.specs.Prelude.{◌≡◌, [], ◌++◌, ◌+◌, ◌-◌, ◌≤◌, length, take, drop};
 ghost use Rattle.std.proofs.Math.Option.{some};
 ghost use Rattle.reading.specs.Spoken.{meaning};
@@ -12,21 +14,21 @@ use reading::Spoken;
 const MOST_LINE: usize = 32;
 
 // The line so far is the first `count` bytes; a count over 32 says that it is too long to be read.
-#[derive(Drop)]
+#[derive(Clone, Copy)]
 pub struct Carry {
     pub bytes: [u8; 32],
     pub count: usize,
 }
 
 // A line ended: what it says, and where the next one begins. Or the chunk is used up.
-#[derive(Drop)]
+#[derive(Clone, Copy)]
 pub enum Next {
     Line { call: Spoken, at: usize },
     Used,
 }
 
 // What is left at the input's end: a line that has begun, or nothing.
-#[derive(Drop)]
+#[derive(Clone, Copy)]
 pub enum Last {
     Line(Spoken),
     Nothing,

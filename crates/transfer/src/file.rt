@@ -4,7 +4,7 @@ ghost use Rattle.transfer.specs.Content.{Holds};
 use crate::opened::{Opened, opened_by};
 
 // So many bytes are in the buffer; or there is no such file; or there is one, and it cannot be read.
-#[derive(Drop)]
+#[derive(Clone, Copy)]
 pub enum Content {
     Bytes(usize),
     Missing,

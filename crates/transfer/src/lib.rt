@@ -1,4 +1,6 @@
 // Reads and writes, made again where a signal interrupted them or where they would block; and a file read as a whole.
+#![tactic(auto)]
+
 pub mod file;
 mod opened;
 pub mod outcome;
@@ -11,7 +13,7 @@ ghost use Rattle.transfer.specs.Outcome.{moved_by};
 use outcome::Outcome;
 
 // How many bytes a call moved; whether it failed, and whether it is then made again.
-#[derive(Drop)]
+#[derive(Clone, Copy)]
 pub struct Moved {
     pub count: usize,
     pub failed: bool,

@@ -3,7 +3,7 @@ ghost use Rattle.std.specs.Prelude.{◌≡◌};
 ghost use Rattle.transfer.specs.Opened.{opened_by};
 
 // The file is open; or there is none; or there is one, and it cannot be opened.
-#[derive(Drop)]
+#[derive(Clone, Copy)]
 pub enum Opened {
     Open,
     Missing,

@@ -3,7 +3,7 @@ ghost use Rattle.std.specs.Prelude.{◌≡◌, length};
 ghost use Rattle.transfer.specs.Outcome.{outcome_of};
 
 // So many bytes were moved; or the call failed, and is made again at once, or after a pause, or never.
-#[derive(Drop)]
+#[derive(Clone, Copy)]
 pub enum Outcome {
     Moved(usize),
     AtOnce,

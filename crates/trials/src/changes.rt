@@ -16,7 +16,7 @@ use model::{MOST_ACTIONS, MOST_CHANGES};
 const REMOVE: u16 = 1;
 
 // A belief table after some changes, and those that took effect, the first `count` of the array.
-#[derive(Drop)]
+#[derive(Clone, Copy)]
 pub struct Altered {
     pub table: Beliefs,
     pub changes: [Change; MOST_CHANGES],

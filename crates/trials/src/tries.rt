@@ -19,7 +19,7 @@ use model::{ACHIEVE, ACTION};
 const MOST_HEIGHT: usize = 8;
 
 // What came of a branch: nothing, a step, an action for the driver, a goal to post.
-#[derive(Drop)]
+#[derive(Clone, Copy)]
 pub enum Outcome {
     Missed,
     Stepped,
@@ -28,7 +28,7 @@ pub enum Outcome {
 }
 
 // What came of it, with the environment after a step, and the table.
-#[derive(Drop)]
+#[derive(Clone, Copy)]
 pub struct Trial {
     pub outcome: Outcome,
     pub env: Env,

@@ -1,0 +1,16 @@
+-- `accepted::stages::all_apart` meets its contract. The loop's invariant: what is left decides as the whole does.
+use Prim.Native.Nat.{◌≤◌, ◌+◌, ◌*◌}
+use mathlib.Core.Path.{◌≡◌}
+use Rattle.lists.specs.Search.{distinct}
+use Rattle.library.specs.Bytes.{literal_at, items}
+use Rattle.accepted.proofs.StageLaws.{alike}
+use Rattle.accepted.proofs.stages.all_apart.Given as goal
+
+abbrev pub invariant-loop-left : goal.invariant-loop-left
+invariant-loop-left l =
+    (l.at + 8 * l.left ≤ l.from + 8 * l.n)
+    × (l.left ≤ l.n)
+    × (distinct alike (items (literal_at l.bytes) 8 l.left l.at) ≡ distinct alike (items (literal_at l.bytes) 8 l.n l.from))
+
+abbrev pub decreases-loop-left : goal.decreases-loop-left
+decreases-loop-left l = l.left

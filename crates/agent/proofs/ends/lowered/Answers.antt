@@ -1,0 +1,34 @@
+-- `agent::ends::lowered` meets its contract: the stack goes where its top was alone, else the one below is its top.
+use native.Mathlib.Omega.{arith}
+use Prim.Native.Nat.{◌<◌}
+use mathlib.Core.Path.{◌≡◌, ap, sym}
+use mathlib.Core.List.{List}
+use Rattle.model.specs.declared.Instance.{Instance}
+use Rattle.model.specs.State.{Intention}
+use Rattle.state.specs.View.{depth_of, view_state}
+use Rattle.state.specs.Stacks.{pop}
+use Rattle.state.proofs.StackLaws.{pop-none}
+use Rattle.moves.specs.Moves.{requeue}
+use Rattle.agent.specs.Turnable.{ended}
+use Rattle.steps.proofs.GivesLaws.{replies_as}
+use Rattle.agent.proofs.TurnLaws.{pops}
+use Rattle.agent.proofs.ends.lowered.Goals as goal
+
+pub returns-then-depth_of-lt1 : goal.returns-then-depth_of-lt1
+returns-then-depth_of-lt1 c = λ s stands few.
+    let a = c.args in
+    let bottom : depth_of a.stack ≡ 0 = omega (arith, c.depth_of.ensures, c.if-depth_of-lt1) in
+    replies_as (ap (λ (ks : List Intention). ended (view_state (requeue a.queue s)) a.place ks a.answer a.altered) (sym (pop-none a.stack (λ (x : Instance). x) bottom)))
+    (c.emptied.ensures s stands few)
+
+pub turned-requires : goal.turned-requires
+unfolding pop
+turned-requires c = rw c.popped-next.ensures (omega arith)
+
+pub returns : goal.returns
+returns c = λ s stands few.
+    let a = c.args in
+    let above : 0 < depth_of a.stack = omega (arith, c.depth_of.ensures, c.if-depth_of-lt1) in
+    replies_as (ap (λ (ks : List Intention). ended (view_state (requeue a.queue s)) a.place ks a.answer a.altered)
+    (pops a.stack c.popped-next.result (λ (x : Instance). x) c.under_top-poster.result above c.popped-next.ensures c.under_top-poster.ensures))
+    (c.turned.ensures s stands few)

@@ -1,0 +1,27 @@
+-- `agent::turn::try_branch` meets its contract: the trial is the model's, for the stack's height.
+use native.Mathlib.Omega.{arith}
+use Prim.Native.Nat.{◌+◌}
+use mathlib.Core.Path.{◌≡◌, ap, sym, subst⁻¹, ◌∙◌}
+use Rattle.belief.specs.declared.Beliefs.{Beliefs}
+use Rattle.belief.specs.Beliefs.{view}
+use Rattle.model.specs.Try.{Try, attempt, tried}
+use Rattle.model.specs.Turn.{height_of}
+use Rattle.state.specs.View.{depth_of, view_stack, view_state}
+use Rattle.state.proofs.StackLaws.{length-down}
+use Rattle.trials.specs.Altered.{Alters}
+use Rattle.trials.specs.Trial.{view_trial, changes_by, Tries}
+use Rattle.agent.specs.Turnable.{placed}
+use Rattle.steps.proofs.GivesLaws.{replies_as}
+use Rattle.agent.proofs.turn.try_branch.Goals as goal
+
+pub on_trial-requires : goal.on_trial-requires
+on_trial-requires c = c.requires
+
+pub returns : goal.returns
+returns c = λ s e stands room.
+    let a = c.args in
+    let high : c.depth_of-height.result + 1 ≡ height_of (view_stack a.stack) = omega (arith, c.depth_of-height.ensures, length-down (depth_of a.stack) a.stack.below) in
+    let t : Tries a.b (attempt (view a.b) (height_of (view_stack a.stack)) a.stack.top.env a.branch) c.attempt-trial.result = rw high at c.attempt-trial.ensures in
+    let alters = subst⁻¹ (λ (b : Beliefs). Alters b (changes_by (view_trial c.attempt-trial.result)) c.attempt-trial.result.altered) e (rw t.shown t.altered) in
+    replies_as (ap (λ (y : Try). tried (view_state s) (placed a.place a.stack) a.branch y) t.shown)
+    (c.on_trial.ensures s stands alters (λ goal p. room goal (sym t.shown ∙ p)))

@@ -1,0 +1,13 @@
+-- `state::search::next_stack` meets its contract. The loop's invariant: what it looks for is not before i.
+use Prim.Native.Nat.{◌-◌, ◌≤◌}
+use lib.ListN.{take}
+use Rattle.lists.proofs.SearchLaws.{Passed}
+use Rattle.model.specs.Turn.{is_running}
+use Rattle.state.specs.View.{view_stack}
+use Rattle.state.proofs.search.next_stack.Given as goal
+
+abbrev pub invariant-loop-i : goal.invariant-loop-i
+invariant-loop-i l = (l.i ≤ l.n) × Passed (λ k. is_running (view_stack k)) (take l.n l.stacks) 0 l.i
+
+abbrev pub decreases-loop-i : goal.decreases-loop-i
+decreases-loop-i l = l.n - l.i
