@@ -2,7 +2,7 @@
 # Times the proved program and the reference on the same journals and prints the tables of docs/BENCHMARKS.md.
 #   bench/bench.sh [--write] [lines] [RUNS]     --write puts the tables into the document; lines: only the table of lines that come
 #                                               one at a time; RUNS is 5 unless given
-# $PROVED and $REFERENCE name other programs than target/bin/canarystand and target/cargo/release/reference.
+# $PROVED and $REFERENCE name other programs than crates/canarystand/out/canarystand and target/cargo/release/reference.
 # A program that does not exist is left out.
 set -euo pipefail
 cd "$(dirname "$0")/.."
@@ -19,5 +19,5 @@ done
 
 tables=$(mktemp)
 trap 'rm -f "$tables"' EXIT
-target/cargo/release/bench "${words[@]}" "${PROVED:-target/bin/canarystand}" "${REFERENCE:-target/cargo/release/reference}" "$@" | tee "$tables"
+target/cargo/release/bench "${words[@]}" "${PROVED:-crates/canarystand/out/canarystand}" "${REFERENCE:-target/cargo/release/reference}" "$@" | tee "$tables"
 [ "$write" -eq 0 ] || between "$part" "$tables"

@@ -5,8 +5,8 @@
 set -euo pipefail
 cd "$(dirname "$0")/.."
 
-program=$(realpath "${PROGRAM:-target/bin/canarystand}")
-[ -x "$program" ] || { echo "target/bin/canarystand is missing: rt check canarystand builds it"; exit 1; }
+program=$(realpath "${PROGRAM:-crates/canarystand/out/canarystand}")
+[ -x "$program" ] || { echo "crates/canarystand/out/canarystand is missing: rt ci builds it"; exit 1; }
 
 folder=$(mktemp -d)
 trap 'rm -rf "$folder"' EXIT

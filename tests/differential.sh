@@ -7,7 +7,7 @@ set -euo pipefail
 cd "$(dirname "$0")/.."
 
 command -v cargo > /dev/null || { echo "cargo is missing: the reference in reference/ and this comparison are built by it"; exit 1; }
-[ -x "${PROVED:-target/bin/canarystand}" ] || { echo "target/bin/canarystand is missing: rt check canarystand builds it"; exit 1; }
+[ -x "${PROVED:-crates/canarystand/out/canarystand}" ] || { echo "crates/canarystand/out/canarystand is missing: rt ci builds it"; exit 1; }
 
 # Each shift syncs its image, for which a disk takes its time.
 [ -n "${TMPDIR:-}" ] || [ ! -w /dev/shm ] || export TMPDIR=/dev/shm
@@ -22,4 +22,4 @@ for package in reference tests/differential; do
 done
 
 target/cargo/release/differential --strict --seeds "${SEEDS:-400}" --long 2 "$@"
-target/cargo/release/shifts "${PROVED:-target/bin/canarystand}" target/cargo/release/reference "${SHIFTS:-200}"
+target/cargo/release/shifts "${PROVED:-crates/canarystand/out/canarystand}" target/cargo/release/reference "${SHIFTS:-200}"

@@ -5,9 +5,9 @@
 set -euo pipefail
 cd "$(dirname "$0")/.."
 
-proved=${PROVED:-target/bin/canarystand}
+proved=${PROVED:-crates/canarystand/out/canarystand}
 built=target/cargo/release
-[ -x "$proved" ] || { echo "$proved is missing: rt check canarystand builds it"; exit 1; }
+[ -x "$proved" ] || { echo "$proved is missing: rt ci builds it"; exit 1; }
 programs=("$(realpath "$proved")")
 [ ! -x "$built/reference" ] || programs+=("$(realpath "$built/reference")")
 

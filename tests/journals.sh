@@ -5,9 +5,9 @@
 set -euo pipefail
 cd "$(dirname "$0")/.."
 
-proved=target/bin/canarystand
+proved=crates/canarystand/out/canarystand
 reference=target/cargo/release/reference
-[ -x "$proved" ] || { echo "$proved is missing: rt check canarystand builds it"; exit 1; }
+[ -x "$proved" ] || { echo "$proved is missing: rt ci builds it"; exit 1; }
 programs=("$proved")
 [ ! -x "$reference" ] || programs+=("$reference")
 

@@ -4,8 +4,8 @@
 set -euo pipefail
 cd "$(dirname "$0")/.."
 
-program=$(realpath target/bin/canarystand)
-[ -x "$program" ] || { echo "target/bin/canarystand is missing: rt check canarystand builds it"; exit 1; }
+program=$(realpath crates/canarystand/out/canarystand)
+[ -x "$program" ] || { echo "crates/canarystand/out/canarystand is missing: rt ci builds it"; exit 1; }
 patience=10
 
 # dialogue CASE: writes the case's input line by line and compares each answer as it comes.

@@ -4,8 +4,8 @@
 set -euo pipefail
 cd "$(dirname "$0")/.."
 
-program=$(realpath "${PROGRAM:-target/bin/canarystand}")
-[ -x "$program" ] || { echo "target/bin/canarystand is missing: rt check canarystand builds it"; exit 1; }
+program=$(realpath "${PROGRAM:-crates/canarystand/out/canarystand}")
+[ -x "$program" ] || { echo "crates/canarystand/out/canarystand is missing: rt ci builds it"; exit 1; }
 command -v cargo > /dev/null || { echo "cargo is missing: tests/faults is built by it"; exit 1; }
 cargo build --quiet --release --offline --locked --manifest-path tests/faults/Cargo.toml --target-dir target/cargo
 faults=$(realpath target/cargo/release/libfaults.so)

@@ -5,12 +5,12 @@ set -euo pipefail
 cd "$(dirname "$0")/../.."
 
 loft=$(realpath "${LOFT:-target/cargo/release/loft}")
-program=$(realpath "${PROVED:-target/bin/canarystand}")
+program=$(realpath "${PROVED:-crates/canarystand/out/canarystand}")
 generate=target/cargo/release/generate
 stored=$PWD/tests/loft/journals
 write=${1:-}
 [ -x "$loft" ] || { echo "$loft is missing: tests/loft.sh builds it"; exit 1; }
-[ -x "$program" ] || { echo "$program is missing: rt check canarystand builds it"; exit 1; }
+[ -x "$program" ] || { echo "$program is missing: rt ci builds it"; exit 1; }
 
 folder=$(mktemp -d)
 follower=''

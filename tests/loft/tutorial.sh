@@ -5,8 +5,8 @@ set -euo pipefail
 cd "$(dirname "$0")/../.."
 
 page=docs/PLAN-AUTHOR.md
-program=${PROVED:-target/bin/canarystand}
-[ -x "$program" ] || { echo "$program is missing: rt check canarystand builds it"; exit 1; }
+program=${PROVED:-crates/canarystand/out/canarystand}
+[ -x "$program" ] || { echo "$program is missing: rt ci builds it"; exit 1; }
 folder=$(mktemp -d)
 trap 'rm -rf "$folder"' EXIT
 mkdir "$folder/bin" "$folder/work"

@@ -16,7 +16,7 @@ const USAGE: &str = "usage: differential [--seeds N] [--first N] [--long N] [--c
   --long N    so many journals whose numbers pass 65,535 (default 0)
   --counts    print how often each thing came up
   --strict    fail where something never came up
-  PROVED      default: $PROVED, or target/bin/canarystand
+  PROVED      default: $PROVED, or crates/canarystand/out/canarystand
   REFERENCE   default: $REFERENCE, or target/cargo/release/reference";
 
 struct Options {
@@ -65,7 +65,7 @@ fn run(options: &Options) -> Result<(), String> {
         let given = options.programs.get(place).cloned().or_else(|| std::env::var(variable).ok());
         Program::new(&given.unwrap_or_else(|| default.to_string()))
     };
-    let proved = named(0, "PROVED", "target/bin/canarystand")?;
+    let proved = named(0, "PROVED", "crates/canarystand/out/canarystand")?;
     let reference = named(1, "REFERENCE", "target/cargo/release/reference")?;
     let mut coverage = Coverage::default();
     for seed in options.first..options.first + options.seeds {
