@@ -1,24 +1,34 @@
 // Standard output.
-use libc::STDOUT_FILENO;
+use crate::streams::Streams;
 use model::Answer;
+use std::rt::Clock;
 use steps::answer;
+use transfer::why::say_why;
 
 // Writes to standard output, and tells whether it could.
-fn print(bytes: &[u8]) -> bool {
-    let written = transfer::write_all(STDOUT_FILENO, bytes) == bytes.len();
-    if !written {
-        os::fail(b"canarystand: standard output");
+fn print<C: Clock>(clock: &C, streams: Streams, bytes: &[u8]) -> bool {
+    let mut output = streams.output;
+    let mut error = None;
+    if transfer::write_all(clock, &mut output, bytes, &mut error) < bytes.len() {
+        let mut errors = streams.errors;
+        say_why(
+            clock,
+            &mut errors,
+            b"canarystand: standard output",
+            error.unwrap(),
+        );
+        return false;
     }
-    written
+    true
 }
 
 // Writes the first n bytes, and tells whether it could.
-pub(crate) fn print_first(n: usize, out: &[u8]) -> bool {
-    n <= out.len() && print(&out[..n])
+pub(crate) fn print_first<C: Clock>(clock: &C, streams: Streams, n: usize, out: &[u8]) -> bool {
+    n <= out.len() && print(clock, streams, &out[..n])
 }
 
-pub(crate) fn print_refusal(number: u16, out: &mut [u8]) {
-    let result = answer::plain_result(Answer::Refused(number));
-    let n = printing::print_result(out, 0, result);
-    print_first(n, out);
+pub(crate) fn print_refusal<C: Clock>(clock: &C, streams: Streams, number: u16, out: &mut [u8]) {
+    let refused = answer::plain_result(Answer::Refused(number));
+    let n = printing::print_result(out, 0, refused);
+    print_first(clock, streams, n, out);
 }

@@ -1,74 +1,119 @@
 // A file replaced by new bytes as a whole. What fails is said on standard error, in the caller's words.
-use transfer::Moved;
-use transfer::outcome::outcome_of;
+ghost use Rattle.std.specs.Prelude.{◌≡◌, false, IsSome, IsTrue};
 
-fn try_sync(fd: i32) -> Moved {
-    let status = libc::fsync(fd);
-    let error = os::errno();
-    if status >= 0 {
+use crate::streams::Streams;
+use std::fs::{OpenFile, OpenOptions};
+use std::io::Write;
+use std::rt::{Clock, Files};
+use std::{fs, io};
+use transfer::Moved;
+use transfer::outcome::{error_number, outcome_of};
+use transfer::why::say_why;
+
+fn try_sync<C: Clock, F: OpenFile>(clock: &C, file: &F, error: &mut Option<io::Error>) -> Moved
+    ensures { IsTrue result.failed → IsSome error.new }
+{
+    let Err(e) = file.sync_all() else {
         return transfer::succeeded(0);
-    }
-    let outcome = outcome_of(-1, error, b"");
-    transfer::settled(outcome)
+    };
+    *error = Some(e);
+    let outcome = outcome_of(-1, error_number(e), b"");
+    transfer::settled(clock, outcome)
 }
 
 // Waits until what was written is on the device, and tells whether it is.
-fn sync(fd: i32) -> bool {
-    let mut done = try_sync(fd);
+fn sync<C: Clock, F: OpenFile>(clock: &C, file: &F, error: &mut Option<io::Error>) -> bool
+    ensures { result ≡ false → IsSome error.new }
+{
+    let mut done = try_sync(clock, file, error);
     let mut turns = u64::MAX;
     while turns > 0 && done.again {
-        done = try_sync(fd);
+        done = try_sync(clock, file, error);
         turns -= 1;
     }
     !done.failed
 }
 
 // Writes all of the bytes, then syncs them, and tells whether both were done.
-fn write_synced(fd: i32, bytes: &[u8]) -> bool {
-    if transfer::write_all(fd, bytes) != bytes.len() {
+fn write_synced<C: Clock, F: Write + OpenFile>(
+    clock: &C,
+    file: &mut F,
+    bytes: &[u8],
+    error: &mut Option<io::Error>,
+) -> bool
+    ensures { result ≡ false → IsSome error.new }
+{
+    if transfer::write_all(clock, file, bytes, error) < bytes.len() {
         return false;
     }
-    sync(fd)
+    sync(clock, file, error)
+}
+
+// A file that is opened for writing and made new: a name that is taken is refused, whatever has it.
+fn make_new<R: Files>(rt: &R, path: &str) -> io::Result<R::File> {
+    OpenOptions::new()
+        .write(true)
+        .create_new(true)
+        .open(rt, path)
 }
 
 // A new file with these bytes, synced; one that has the name already loses it. Tells whether it was made.
-fn write_new(path: &[u8], unwritten: &[u8], bytes: &[u8]) -> bool {
-    os::unlink(path);
-    let fd = os::create(path);
-    if fd < 0 {
-        os::fail(unwritten);
-        return false;
+fn write_new<R: Files + Clock>(
+    rt: &R,
+    streams: Streams,
+    path: &str,
+    unwritten: &[u8],
+    bytes: &[u8],
+) -> bool {
+    let mut errors = streams.errors;
+    let _ = fs::remove_file(rt, path);
+    match make_new(rt, path) {
+        Ok(mut file) => {
+            let mut error = None;
+            let written = write_synced(rt, &mut file, bytes, &mut error);
+            if !written {
+                say_why(rt, &mut errors, unwritten, error.unwrap());
+            }
+            written
+        }
+        Err(error) => {
+            say_why(rt, &mut errors, unwritten, error);
+            false
+        }
     }
-    let written = write_synced(fd, bytes);
-    if !written {
-        os::fail(unwritten);
-    }
-    libc::close(fd);
-    written
 }
 
 // The bytes in place of a file: in a new file beside it, which then takes its name. Whatever fails, the old file stands as it was.
 // Tells whether it was replaced.
-pub(crate) fn replace_file(path: &[u8], beside: &[u8], unwritten: &[u8], bytes: &[u8]) -> bool {
-    if !write_new(beside, unwritten, bytes) {
+pub(crate) fn replace_file<R: Files + Clock>(
+    rt: &R,
+    streams: Streams,
+    path: &str,
+    beside: &str,
+    unwritten: &[u8],
+    bytes: &[u8],
+) -> bool {
+    if !write_new(rt, streams, beside, unwritten, bytes) {
         return false;
     }
-    if os::rename(beside, path) < 0 {
-        os::fail(unwritten);
-        return false;
-    }
-    true
+    let Err(error) = fs::rename(rt, beside, path) else {
+        return true;
+    };
+    let mut errors = streams.errors;
+    say_why(rt, &mut errors, unwritten, error);
+    false
 }
 
 // Waits until the names in the program's folder are on the device.
-pub(crate) fn sync_folder(unsynced: &[u8]) {
-    let fd = os::open_read(b".");
-    if fd < 0 {
-        os::fail(unsynced);
-        return;
+pub(crate) fn sync_folder<R: Files + Clock>(rt: &R, streams: Streams, unsynced: &[u8]) {
+    let mut errors = streams.errors;
+    match fs::open(rt, ".") {
+        Ok(folder) => {
+            let mut error = None;
+            if !sync(rt, &folder, &mut error) {
+                say_why(rt, &mut errors, unsynced, error.unwrap());
+            }
+        }
+        Err(error) => say_why(rt, &mut errors, unsynced, error),
     }
-    if !sync(fd) {
-        os::fail(unsynced);
-    }
-    libc::close(fd);
 }

@@ -1,8 +1,10 @@
 // The agent that a mode starts with.
-ghost use Rattle.io.specs.Counts.{IsPrefixLen};
+ghost use Rattle.transfer.specs.Counts.{IsPrefixLen};
 
 use crate::output::print_refusal;
+use crate::streams::Streams;
 use load::{Agent, Loaded};
+use std::rt::{Clock, Files};
 use transfer::file;
 use transfer::file::Content;
 
@@ -17,10 +19,17 @@ pub(crate) struct Start {
 }
 
 // How many bytes of the file are in the buffer; a file that is missing or cannot be read counts as empty.
-pub(crate) fn read_library(buf: &mut [u8]) -> usize
+pub(crate) fn read_library<R: Files + Clock>(rt: &R, streams: Streams, buf: &mut [u8]) -> usize
     ensures { IsPrefixLen result buf.new }
 {
-    let content = file::read_file(b"library", b"canarystand: library counts as missing", buf);
+    let mut errors = streams.errors;
+    let content = file::read_file(
+        rt,
+        &mut errors,
+        b"library",
+        b"canarystand: library counts as missing",
+        buf,
+    );
     let Content::Bytes(n) = content else {
         return 0;
     };
@@ -28,11 +37,11 @@ pub(crate) fn read_library(buf: &mut [u8]) -> usize
 }
 
 // The agent that was loaded; a refusal is printed.
-fn started(loaded: Loaded, out: &mut [u8]) -> Start {
+fn started<C: Clock>(clock: &C, streams: Streams, loaded: Loaded, out: &mut [u8]) -> Start {
     let agent = loaded.agent;
     let accepted = loaded.refusal == 0;
     if !accepted {
-        print_refusal(loaded.refusal, out);
+        print_refusal(clock, streams, loaded.refusal, out);
     }
     Start {
         agent: agent,
@@ -51,21 +60,38 @@ fn no_start() -> Start {
 }
 
 // From the file `library`.
-pub(crate) fn from_library(buf: &mut [u8], out: &mut [u8]) -> Start {
-    let n = read_library(buf);
+pub(crate) fn from_library<R: Files + Clock>(
+    rt: &R,
+    streams: Streams,
+    buf: &mut [u8],
+    out: &mut [u8],
+) -> Start {
+    let n = read_library(rt, streams, buf);
     if n == buf.len() {
-        return started(load::refused(TOO_LONG), out);
+        return started(rt, streams, load::refused(TOO_LONG), out);
     }
-    started(load::load(&buf[..n]), out)
+    started(rt, streams, load::load(&buf[..n]), out)
 }
 
 // From the file `image`, or from `library` where there is no image. A file that fills the buffer is longer than any image.
 // One that is there and cannot be read is not taken for missing: the shift's end would overwrite it.
-pub(crate) fn from_image(buf: &mut [u8], out: &mut [u8]) -> Start {
-    let content = file::read_file(b"image", b"canarystand: image cannot be read", buf);
+pub(crate) fn from_image<R: Files + Clock>(
+    rt: &R,
+    streams: Streams,
+    buf: &mut [u8],
+    out: &mut [u8],
+) -> Start {
+    let mut errors = streams.errors;
+    let content = file::read_file(
+        rt,
+        &mut errors,
+        b"image",
+        b"canarystand: image cannot be read",
+        buf,
+    );
     match content {
-        Content::Bytes(n) => started(image::restore::restore(&buf[..n]), out),
-        Content::Missing => from_library(buf, out),
+        Content::Bytes(n) => started(rt, streams, image::restore::restore(&buf[..n]), out),
+        Content::Missing => from_library(rt, streams, buf, out),
         Content::Unreadable => no_start(),
     }
 }

@@ -1,3 +1,1 @@
-pub mod BitLaws
-pub mod ContentLaws
 pub mod OutcomeLaws

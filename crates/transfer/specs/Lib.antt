@@ -1,3 +1,4 @@
 pub mod Content
+pub mod Counts
 pub mod Opened
 pub mod Outcome

@@ -1,7 +1,15 @@
 // A file as a whole, read into a buffer. What fails is said on standard error, in the caller's words.
-ghost use Rattle.transfer.specs.Content.{Holds};
+ghost use Rattle.transfer.specs.Content.{Holds, HoldsAll};
 
 use crate::opened::{Opened, opened_by};
+use crate::outcome::error_number;
+use crate::why::say_why;
+use std::io::{Read, Write};
+use std::rt::{Clock, Files};
+use std::{fs, io, str};
+
+// The number that Linux gives POSIX's EINVAL.
+const INVALID: i32 = 22;
 
 // So many bytes are in the buffer; or there is no such file; or there is one, and it cannot be read.
 #[derive(Clone, Copy)]
@@ -11,31 +19,62 @@ pub enum Content {
     Unreadable,
 }
 
-fn read_open(fd: i32, unreadable: &[u8], buf: &mut [u8]) -> Content
-    ensures { Holds result buf.new }
+// The bytes of a file that is open.
+fn read_open<C: Clock, F: Read, E: Write>(
+    clock: &C,
+    err: &mut E,
+    file: &mut F,
+    unreadable: &[u8],
+    buf: &mut [u8],
+) -> Content
+    ensures count { Holds result buf.new }
+    ensures bytes { HoldsAll result (F.remaining file.old) (F.remaining file.new) buf.new }
 {
-    let got = crate::read_full(fd, buf);
+    let mut error = None;
+    let got = crate::read_full(clock, file, buf, &mut error);
     if got.failed {
-        os::fail(unreadable);
-        libc::close(fd);
+        say_why(clock, err, unreadable, error.unwrap());
         return Content::Unreadable;
     }
-    libc::close(fd);
     Content::Bytes(got.count)
 }
 
-// The file's bytes, as many as the buffer holds.
-pub fn read_file(path: &[u8], unreadable: &[u8], buf: &mut [u8]) -> Content
+// The bytes of the file that has this name.
+fn read_named<R: Files + Clock, E: Write>(
+    rt: &R,
+    err: &mut E,
+    name: &str,
+    unreadable: &[u8],
+    buf: &mut [u8],
+) -> Content
     ensures { Holds result buf.new }
 {
-    let fd = os::open_read(path);
-    let error = os::errno();
-    let opened = opened_by(fd, error);
-    match opened {
-        Opened::Open => read_open(fd, unreadable, buf),
-        Opened::Missing => Content::Missing,
-        Opened::Failed => {
-            os::fail(unreadable);
+    match fs::open(rt, name) {
+        Ok(mut file) => read_open(rt, err, &mut file, unreadable, buf),
+        Err(error) => match opened_by(-1, error_number(error)) {
+            Opened::Missing => Content::Missing,
+            Opened::Open | Opened::Failed => {
+                say_why(rt, err, unreadable, error);
+                Content::Unreadable
+            }
+        },
+    }
+}
+
+// The file's bytes, as many as the buffer holds. A path that is no UTF-8 text names no file that can be opened.
+pub fn read_file<R: Files + Clock, E: Write>(
+    rt: &R,
+    err: &mut E,
+    path: &[u8],
+    unreadable: &[u8],
+    buf: &mut [u8],
+) -> Content
+    ensures { Holds result buf.new }
+{
+    match str::from_utf8(path) {
+        Ok(name) => read_named(rt, err, name, unreadable, buf),
+        Err(_) => {
+            say_why(rt, err, unreadable, io::Error::from_raw_os_error(INVALID));
             Content::Unreadable
         }
     }

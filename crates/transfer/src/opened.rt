@@ -2,6 +2,9 @@
 ghost use Rattle.std.specs.Prelude.{◌≡◌};
 ghost use Rattle.transfer.specs.Opened.{opened_by};
 
+// The number that Linux gives POSIX's ENOENT.
+const NO_SUCH_FILE: i32 = 2;
+
 // The file is open; or there is none; or there is one, and it cannot be opened.
 #[derive(Clone, Copy)]
 pub enum Opened {
@@ -11,13 +14,14 @@ pub enum Opened {
 }
 
 // By the descriptor, and the error's number where it is negative.
+#[tactic(auto, unfolding(crate::specs::Opened::opened_by, crate::specs::Opened::not_opened))]
 pub fn opened_by(fd: i32, error: i32) -> Opened
     ensures { result ≡ opened_by fd error }
 {
     if fd >= 0 {
         return Opened::Open;
     }
-    if error == libc::ENOENT {
+    if error == NO_SUCH_FILE {
         return Opened::Missing;
     }
     Opened::Failed

@@ -1,18 +1,12 @@
 // A short wait, for a read or a write that would block.
-use libc::types::timespec;
+use std::rt::Clock;
+use std::thread;
+use std::time::Duration;
 
-// How long it is, in nanoseconds: short beside a device's answer, long beside a call of the system.
-const WAIT: i64 = 5000000;
+// How long it is, in milliseconds: short beside a device's answer, long beside a call of the system.
+const WAIT: u64 = 5;
 
-// Waits once. A signal may end the wait early.
-pub(crate) fn wait() {
-    let asked = timespec {
-        tv_sec: 0,
-        tv_nsec: WAIT,
-    };
-    let mut left = timespec {
-        tv_sec: 0,
-        tv_nsec: 0,
-    };
-    libc::nanosleep(&asked, &mut left);
+// Waits once.
+pub(crate) fn wait<C: Clock>(clock: &C) {
+    thread::sleep(clock, Duration::from_millis(WAIT));
 }
