@@ -26,12 +26,7 @@ pub(crate) fn answer_all<C: Clock>(
             let got = transfer::read_some(clock, &mut stdin, input, &mut error);
             if got.failed {
                 let mut errors = streams.errors;
-                say_why(
-                    clock,
-                    &mut errors,
-                    b"canarystand: standard input",
-                    error.unwrap(),
-                );
+                say_why(&mut errors, b"canarystand: standard input", error.unwrap());
                 return d;
             }
             n = got.count;

@@ -11,12 +11,7 @@ fn print<C: Clock>(clock: &C, streams: Streams, bytes: &[u8]) -> bool {
     let mut error = None;
     if transfer::write_all(clock, &mut output, bytes, &mut error) < bytes.len() {
         let mut errors = streams.errors;
-        say_why(
-            clock,
-            &mut errors,
-            b"canarystand: standard output",
-            error.unwrap(),
-        );
+        say_why(&mut errors, b"canarystand: standard output", error.unwrap());
         return false;
     }
     true

@@ -72,12 +72,12 @@ fn write_new<R: Files + Clock>(
             let mut error = None;
             let written = write_synced(rt, &mut file, bytes, &mut error);
             if !written {
-                say_why(rt, &mut errors, unwritten, error.unwrap());
+                say_why(&mut errors, unwritten, error.unwrap());
             }
             written
         }
         Err(error) => {
-            say_why(rt, &mut errors, unwritten, error);
+            say_why(&mut errors, unwritten, error);
             false
         }
     }
@@ -100,7 +100,7 @@ pub(crate) fn replace_file<R: Files + Clock>(
         return true;
     };
     let mut errors = streams.errors;
-    say_why(rt, &mut errors, unwritten, error);
+    say_why(&mut errors, unwritten, error);
     false
 }
 
@@ -111,9 +111,9 @@ pub(crate) fn sync_folder<R: Files + Clock>(rt: &R, streams: Streams, unsynced: 
         Ok(folder) => {
             let mut error = None;
             if !sync(rt, &folder, &mut error) {
-                say_why(rt, &mut errors, unsynced, error.unwrap());
+                say_why(&mut errors, unsynced, error.unwrap());
             }
         }
-        Err(error) => say_why(rt, &mut errors, unsynced, error),
+        Err(error) => say_why(&mut errors, unsynced, error),
     }
 }

@@ -33,7 +33,7 @@ fn read_open<C: Clock, F: Read, E: Write>(
     let mut error = None;
     let got = crate::read_full(clock, file, buf, &mut error);
     if got.failed {
-        say_why(clock, err, unreadable, error.unwrap());
+        say_why(err, unreadable, error.unwrap());
         return Content::Unreadable;
     }
     Content::Bytes(got.count)
@@ -54,7 +54,7 @@ fn read_named<R: Files + Clock, E: Write>(
         Err(error) => match opened_by(-1, error_number(error)) {
             Opened::Missing => Content::Missing,
             Opened::Open | Opened::Failed => {
-                say_why(rt, err, unreadable, error);
+                say_why(err, unreadable, error);
                 Content::Unreadable
             }
         },
@@ -74,7 +74,7 @@ pub fn read_file<R: Files + Clock, E: Write>(
     match str::from_utf8(path) {
         Ok(name) => read_named(rt, err, name, unreadable, buf),
         Err(_) => {
-            say_why(rt, err, unreadable, io::Error::from_raw_os_error(INVALID));
+            say_why(err, unreadable, io::Error::from_raw_os_error(INVALID));
             Content::Unreadable
         }
     }
