@@ -14,19 +14,19 @@ scratch cycles "$(sed -n 's/^canarystand: //p' crates.txt)"
 cat > "$copy/crates/cycles/src/main.rt" << 'END'
 // A million cycles by the agent's public call: on an agent without events; beside one waiting stack where the input has a byte; with
 // the library of the input where it has more.
+#![tactic(auto)]
+
 use agent::calls;
-use libc::STDIN_FILENO;
-use libc::STDOUT_FILENO;
 use literal::Literal;
 use load::Agent;
 
-fn run(a: Agent, n: usize) -> Agent {
+const BUFFER: usize = 65536;
+
+fn run(a: Agent, n: u32) -> Agent {
     let mut agent = a;
-    let mut i: usize = 0;
-    while i < n {
+    for _ in 0..n {
         let replied = calls::cycle(agent);
         agent = replied.agent;
-        i += 1;
     }
     agent
 }
@@ -42,63 +42,29 @@ fn reported(a: Agent) -> Agent {
     replied.agent
 }
 
-fn main() {
+fn main(rt: HostRuntime) {
     let loaded = load::load(&[
         1, 0, 0, 0, 8, 0, 50, 0, 0, 0, 1, 0, 248, 255, 0, 0, 0, 0, 1, 0, 0, 0, 1, 0, 0, 0, 1, 0, 1, 0, 1, 0,
         248, 255, 0, 0, 0, 0, 0, 0, 2, 0, 1, 0, 2, 0, 9, 0, 248, 255, 0, 0, 0, 0, 1, 0, 0, 0,
     ]);
     let mut agent = loaded.agent;
-    let mut input = io::large_buffer();
-    let n = io::read_full(STDIN_FILENO, &mut input);
+    let mut input = [0u8; BUFFER];
+    let mut stdin = rt.stdin();
+    let mut error = None;
+    let got = transfer::read_full(&rt, &mut stdin, &mut input, &mut error);
+    let n = got.count;
     if n == 1 {
         agent = reported(agent);
     }
-    if 1 < n && n <= input.len() {
+    if 1 < n {
         let given = load::load(&input[..n]);
         agent = given.agent;
     }
     let last = run(agent, 1000000);
     if last.length == 0 {
-        io::write_all(STDOUT_FILENO, b"no library");
+        let _ = rt.write_all(b"no library\n");
     }
 }
-END
-
-cat > "$copy/crates/cycles/proofs/run/Proof.antt" << 'END'
-use borrow.Author.Needs.{needs}
-use native.Mathlib.Omega.{arith}
-use Prim.Native.Nat.{_-_, _≤_}
-use Rattle·cycles·proofs.proofs.run.Statement.{statement}
-use Rattle·cycles·proofs.proofs.run.Tie as tie
-
-abbrev Inv-loop : tie.InvT-loop
-Inv-loop n agent₀ i₀ agent i = i ≤ n
-
-abbrev μ-loop : tie.MeasureT-loop
-μ-loop n agent₀ i₀ agent i = n - i
-
-loop-holds : tie.Need-loop-holds Inv-loop μ-loop
-loop-holds c = omega arith
-
-cycle-requires : tie.Need-cycle-requires Inv-loop μ-loop
-cycle-requires c κs = search needs
-
-add-i : tie.Need-add-i Inv-loop μ-loop
-add-i c = search needs
-
-loop-less : tie.Need-loop-less Inv-loop μ-loop
-loop-less c = omega arith
-
-loop-again : tie.Need-loop-again Inv-loop μ-loop
-loop-again c = omega arith
-
-returns : tie.Need-returns Inv-loop μ-loop
-returns c = search needs
-
-pub run-spec : {M : Type 1} → statement M
-run-spec =
-    tie.close
-    (tie.spec Inv-loop μ-loop loop-holds cycle-requires add-i loop-less loop-again returns)
 END
 
 built cycles
