@@ -117,7 +117,6 @@ fn compare(program: &Program, library: &[u8], input: &Path, output: &Path) -> Re
             _ => break Compared::Differs { same, call, stored: line, program: answer },
         }
     };
-    drop(answers);
     running.finish(!matches!(found, Compared::Differs { .. }))?;
     Ok(found)
 }

@@ -7,7 +7,7 @@ use std::time::{SystemTime, UNIX_EPOCH};
 
 const NAME: &str = "canarystand";
 /// From the folder of loft to the program, where the repository has built both.
-const BESIDE_LOFT: [&str; 2] = ["canarystand", "../../bin/canarystand"];
+const BESIDE_LOFT: [&str; 2] = ["canarystand", "../../../crates/canarystand/out/canarystand"];
 
 pub struct Program(PathBuf);
 
@@ -57,8 +57,12 @@ impl Running {
         self.child.stdout.take().ok_or_else(|| "the program has no standard output".into())
     }
 
-    /// Waits for the end; an error where the program should have ended by itself and was ended by a signal.
+    /// Waits for the end; an error where the program should have ended by itself and was ended by a signal. One whose answers are not
+    /// read to their end is ended here, while its pipe is open: else it would say on standard error that nobody reads.
     pub fn finish(mut self, by_itself: bool) -> Result<(), String> {
+        if !by_itself {
+            let _ = self.child.kill();
+        }
         let status = self.child.wait().map_err(|error| error.to_string())?;
         match (by_itself, status.code()) {
             (true, None) => Err(format!("the program was ended by a signal: {status}")),
