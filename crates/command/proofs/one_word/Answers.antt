@@ -20,9 +20,3 @@ unfolding one_word
 returns c =
     not_named Board Unknown (sym c.is_name-2.ensures ∙ c.if-is_name-2.false)
     ∙ not_named Shift _ (sym c.is_name.ensures ∙ c.if-is_name.false)
-
--- LOST slice-aggregate-is-name : tie.Need-slice-aggregate-is-name
--- LOST slice-aggregate-is-name c = search rules
-
--- LOST slice-aggregate-is-name-2 : tie.Need-slice-aggregate-is-name-2
--- LOST slice-aggregate-is-name-2 c = search rules

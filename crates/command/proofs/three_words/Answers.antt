@@ -17,6 +17,3 @@ unfolding three_words
 returns c =
     let a = c.args in
     not_named (endings_mode a.first.now a.second.now) Unknown (sym c.is_name.ensures ∙ c.if-is_name.false)
-
--- LOST slice-aggregate-is-name : tie.Need-slice-aggregate-is-name
--- LOST slice-aggregate-is-name c = search rules

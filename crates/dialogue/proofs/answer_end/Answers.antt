@@ -9,6 +9,3 @@ returns-in_default c = let a = c.args in end_silent a.d a.piece.now a.out.now (s
 
 pub returns : goal.returns
 returns c = let a = c.args in end_fed a.d a.piece.now _ c.feed-fed.result (sym (ap shown_last c.in-Line.is) ∙ c.last_line.ensures) c.feed-fed.ensures
-
--- LOST slice-aggregate-feed : tie.Need-slice-aggregate-feed
--- LOST slice-aggregate-feed c = search rules
