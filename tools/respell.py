@@ -15,7 +15,8 @@ import sys
 
 HERE = os.path.dirname(os.path.realpath(__file__))
 TABLE = os.path.join(HERE, "respell.tsv")
-SNAKE = "/opt/rattle/port/notes/2026-11-18-names-are-in-snake-case/snake.py"
+# Below the folder of the page that `rt doc` names.
+SNAKE = "port/notes/2026-11-18-names-are-in-snake-case/snake.py"
 WORD = re.compile(r"[^\s(){}.;,@\"«»]+")
 
 
@@ -47,12 +48,18 @@ def turned(text, table):
     return re.sub(r"(?m)^(old:|new:|#)(.*)$", line, text)
 
 
+def snake():
+    """The kit's script that rewrites names by a table."""
+    page = subprocess.run(["rt", "doc"], check=True, capture_output=True, text=True).stdout.split()[0]
+    return os.path.join(os.path.dirname(page), SNAKE)
+
+
 def main(root):
-    table = rows()
+    table, script = rows(), snake()
     crates = os.path.join(root, "crates")
-    subprocess.run([sys.executable, SNAKE, "--table", TABLE, "--skip-behind", "goal,c,w,l,g", crates], check=True, stdout=subprocess.DEVNULL)
+    subprocess.run([sys.executable, script, "--table", TABLE, "--skip-behind", "goal,c,w,l,g", crates], check=True, stdout=subprocess.DEVNULL)
     pages = [os.path.join(root, page) for page in ("README.md", "docs")]
-    subprocess.run([sys.executable, SNAKE, "--table", TABLE, "--only", "md", *pages], check=True, stdout=subprocess.DEVNULL)
+    subprocess.run([sys.executable, script, "--table", TABLE, "--only", "md", *pages], check=True, stdout=subprocess.DEVNULL)
     for path in edits(root):
         with open(path, encoding="utf-8") as f:
             old = f.read()

@@ -98,7 +98,8 @@ form_tree states = leads_up (length states) 0 states && is_tree states
 unfoldable pub states : List ℕ → Parsed (List (List Branch))
 states bytes =
     and_then (number bytes)
-    (λ count one. cond (leb 1 count && leb count 16) (and_then (many state count one) (λ ss rest. given (form_tree ss) ss rest)) off_layout)
+    (λ count one. cond (leb 1 count && leb count 16)
+    (and_then (many state count one) (λ ss rest. given (form_tree ss) ss rest)) off_layout)
 
 -- ---- A plan
 

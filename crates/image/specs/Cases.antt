@@ -32,7 +32,9 @@ page_beliefs = 1 ∷ 0 ∷ 1 ∷ 0 ∷ 5 ∷ 0 ∷ 0 ∷ 0 ∷ 0 ∷ 0 ∷ []
 
 -- the events before the number of the one that is there
 abbrev page_event : List ℕ
-page_event = 1 ∷ 0 ∷ 0 ∷ 0 ∷ 0 ∷ 0 ∷ 0 ∷ 0 ∷ 0 ∷ 0 ∷ 1 ∷ 0 ∷ 5 ∷ 0 ∷ 0 ∷ 0 ∷ 0 ∷ 0 ∷ 0 ∷ 0 ∷ 0 ∷ 0 ∷ []
+page_event =
+    1 ∷ 0 ∷ 0 ∷ 0 ∷ 0 ∷ 0 ∷ 0 ∷ 0 ∷ 0 ∷ 0
+    ∷ 1 ∷ 0 ∷ 5 ∷ 0 ∷ 0 ∷ 0 ∷ 0 ∷ 0 ∷ 0 ∷ 0 ∷ 0 ∷ 0 ∷ []
 
 -- the instance before its id
 abbrev page_instance : List ℕ
@@ -48,12 +50,16 @@ abbrev page_stacks : List ℕ
 page_stacks = 1 ∷ 0 ∷ 1 ∷ 0 ∷ (one ++ (page_instance ++ one))
 
 unfoldable pub page_image : List ℕ
-page_image = page_contents ++ (journal_library ++ (page_beliefs ++ (page_event ++ (one ++ (page_stacks ++ (one ++ (one ++ (32 ∷ 0 ∷ []))))))))
+page_image =
+    page_contents
+    ++ (journal_library ++ (page_beliefs ++ (page_event ++ (one ++ (page_stacks ++ (one ++ (one ++ (32 ∷ 0 ∷ []))))))))
 
 -- ---- Its image of the older form
 
 abbrev older_contents : List ℕ
-older_contents = 20 ∷ 0 ∷ 58 ∷ 0 ∷ 78 ∷ 0 ∷ 10 ∷ 0 ∷ 88 ∷ 0 ∷ 24 ∷ 0 ∷ 112 ∷ 0 ∷ 32 ∷ 0 ∷ 144 ∷ 0 ∷ 4 ∷ 0 ∷ []
+older_contents =
+    20 ∷ 0 ∷ 58 ∷ 0 ∷ 78 ∷ 0 ∷ 10 ∷ 0 ∷ 88 ∷ 0 ∷ 24 ∷ 0
+    ∷ 112 ∷ 0 ∷ 32 ∷ 0 ∷ 144 ∷ 0 ∷ 4 ∷ 0 ∷ []
 
 abbrev short_one : List ℕ
 short_one = 1 ∷ 0 ∷ []

@@ -27,7 +27,8 @@ items read width (suc n) at = read at ∷ items read width n (at + width)
 -- n rows, each its number of items and them
 unfoldable pub rows : {A : Type 0} → (ℕ → A) → List ℕ → ℕ → ℕ → ℕ → List (List A)
 rows read bytes width zero at = []
-rows read bytes width (suc n) at = items read width (u16_at bytes at) (at + 2) ∷ rows read bytes width n (at + 2 + width * u16_at bytes at)
+rows read bytes width (suc n) at =
+    items read width (u16_at bytes at) (at + 2) ∷ rows read bytes width n (at + 2 + width * u16_at bytes at)
 
 -- the offset past n rows
 unfoldable pub rows_end : List ℕ → ℕ → ℕ → ℕ → ℕ

@@ -99,4 +99,7 @@ unfoldable pub beliefs_of : List ℕ → List Literal
 beliefs_of bytes = items (literal_at bytes) 8 (belief_count bytes) (beliefs_off bytes)
 
 unfoldable pub library_of : List ℕ → Library
-library_of bytes = record { beliefs = beliefs_of bytes; plans = items (λ plan. plan_at bytes (entry_off bytes plan)) 1 (plan_count bytes) 0 }
+library_of bytes = record {
+  beliefs = beliefs_of bytes;
+  plans = items (λ plan. plan_at bytes (entry_off bytes plan)) 1 (plan_count bytes) 0;
+}

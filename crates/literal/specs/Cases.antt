@@ -10,7 +10,8 @@ into q r length panel = record { head = q + 8 * r; first = length; second = pane
 
 -- the values of V0 to V3; nothing else is bound
 abbrev values_are : ℕ → ℕ → ℕ → ℕ → Env
-values_are first second third fourth = record { terms = first ∷ second ∷ third ∷ fourth ∷ 65532 ∷ 65533 ∷ 65534 ∷ 65535 ∷ [] }
+values_are first second third fourth =
+    record { terms = first ∷ second ∷ third ∷ fourth ∷ 65532 ∷ 65533 ∷ 65534 ∷ 65535 ∷ [] }
 
 -- V0 and V1 are unbound, V2 is a length and V3 a panel
 abbrev lengths_are : ℕ → ℕ → Env

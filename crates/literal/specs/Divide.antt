@@ -50,7 +50,8 @@ divide l env =
 pub record Divided (l : Literal) (env next : Env) : Type 0 where
   pub exact : value env l.first ≡ value next (quotient_variable l) * value env l.second + value next (remainder_variable l)
   pub less : value next (remainder_variable l) < value env l.second
-  pub others : (term : ℕ) → (term ≡ quotient_variable l → ⊥) → (term ≡ remainder_variable l → ⊥) → value next term ≡ value env term
+  pub others : (term : ℕ) → (term ≡ quotient_variable l → ⊥) → (term ≡ remainder_variable l → ⊥)
+      → value next term ≡ value env term
 
 -- a term is the variable of a result
 abbrev pub is_result : Literal → ℕ → Bool

@@ -314,7 +314,8 @@ opposites =
     from_loaded (record { beliefs = lit 2 5 ∷ lit 3 5 ∷ lit 4 5 ∷ []; plans = turner ∷ [] })
     (report 0 (neg 4 6) ∷ report 0 (lit 4 6) ∷ report 0 (lit 4 6) ∷ report 1 (neg 4 6) ∷ report 2 (lit 1 5)
     ∷ cycle ∷ cycle ∷ cycle ∷ cycle ∷ cycle ∷ cycle ∷ cycle ∷ cycle ∷ [])
-    (adding (Taken 1) (neg 4 6) ∷ turning (Taken 2) (turned (neg 4 6) (lit 4 6)) ∷ plain (Taken 3) ∷ plain (Taken 4) ∷ plain (Taken 5)
+    (adding (Taken 1) (neg 4 6) ∷ turning (Taken 2) (turned (neg 4 6) (lit 4 6))
+    ∷ plain (Taken 3) ∷ plain (Taken 4) ∷ plain (Taken 5)
     ∷ plain (Dropped 1 0) ∷ plain (Dropped 2 0) ∷ plain (Dropped 3 0) ∷ plain (Dropped 4 0) ∷ plain (MadeExternal 1 0 5)
     ∷ turning (Stepped 1 0 0 1) (turned (lit 4 5) (neg 4 5))
     ∷ turning (Succeeded 1)
@@ -358,7 +359,8 @@ panels_and_offcut panels offcut = record { head = 8; first = panels; second = of
 abbrev divides_length : Plan
 divides_length =
     when_told [] []
-    ((by_five 0 1 1 ∷ by_five 1 2 2 ∷ []) ∷ [] ∷ (record { kind = 0; literal = panels_and_offcut V1 V2; next = 3 } ∷ []) ∷ [] ∷ [])
+    ((by_five 0 1 1 ∷ by_five 1 2 2 ∷ []) ∷ []
+    ∷ (record { kind = 0; literal = panels_and_offcut V1 V2; next = 3 } ∷ []) ∷ [] ∷ [])
 
 abbrev divided : Scenario
 divided =
@@ -370,7 +372,8 @@ divided =
 abbrev pub scenarios : List Scenario
 scenarios =
     divided ∷ shortest
-    ∷ opposites ∷ turns ∷ unmet ∷ met ∷ branches ∷ outcomes ∷ eight ∷ in_place ∷ effects ∷ applies ∷ drops ∷ full ∷ ill_formed ∷ []
+    ∷ opposites ∷ turns ∷ unmet ∷ met ∷ branches ∷ outcomes ∷ eight
+    ∷ in_place ∷ effects ∷ applies ∷ drops ∷ full ∷ ill_formed ∷ []
 
 -- ---- Which refusal of a report comes first
 
@@ -386,7 +389,8 @@ events_of n = map (λ k. new_event k 2 (lit 1 5)) (down_from n)
 
 -- with so many taken, external events queued and beliefs held
 abbrev state_of : ℕ → ℕ → ℕ → AgentState
-state_of taken externals beliefs = record { beliefs = beliefs_of beliefs; queue = events_of externals; stacks = []; taken = taken; made = 0 }
+state_of taken externals beliefs =
+    record { beliefs = beliefs_of beliefs; queue = events_of externals; stacks = []; taken = taken; made = 0 }
 
 abbrev reporting : AgentState → ℕ → Literal → ℕ → ReportRow
 reporting state kind literal wanted = record { state = state; kind = kind; literal = literal; wanted = wanted }

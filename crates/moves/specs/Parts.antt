@@ -64,7 +64,8 @@ stacks_after stacks.Open stack old stacked = cond (ltb stacked most_stacks) (set
 stacks_after (stacks.Replace place) stack old stacked = cond (ltb place (stacked_in stacked)) (set old place stack) old
 stacks_after (stacks.Last place) stack old stacked =
     cond (ltb place (stacked_in stacked)) (set (close_gap place (stacked_in stacked - 1) old) (stacked_in stacked - 1) stack) old
-stacks_after (stacks.Remove place) stack old stacked = cond (ltb place (stacked_in stacked)) (close_gap place (stacked_in stacked - 1) old) old
+stacks_after (stacks.Remove place) stack old stacked =
+    cond (ltb place (stacked_in stacked)) (close_gap place (stacked_in stacked - 1) old) old
 
 -- their count
 abbrev pub stacked_after : StackMove → ℕ → ℕ

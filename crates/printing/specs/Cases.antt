@@ -69,7 +69,8 @@ longest = lit 65535 65535 65535 65535
 abbrev pub longest_row : Row
 longest_row =
     row (Done 4294967295 65535 65535 longest)
-    (adds longest ∷ removes longest ∷ adds longest ∷ removes longest ∷ adds longest ∷ removes longest ∷ adds longest ∷ removes longest ∷ [])
+    (adds longest ∷ removes longest ∷ adds longest ∷ removes longest
+    ∷ adds longest ∷ removes longest ∷ adds longest ∷ removes longest ∷ [])
     (Text.◌++◌ "D 4294967295 65535 65535 -32767 65535 65535 65535 a -32767 65535 65535 65535 r -32767 65535 65535 65535"
     (Text.◌++◌ " a -32767 65535 65535 65535 r -32767 65535 65535 65535 a -32767 65535 65535 65535 r -32767 65535 65535 65535"
     " a -32767 65535 65535 65535 r -32767 65535 65535 65535\n"))

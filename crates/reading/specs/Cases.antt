@@ -42,7 +42,8 @@ readable =
     -- O 65536 1: an id over 16 bits
     ∷ says (outcome 65536 true) (79 ∷ 32 ∷ 54 ∷ 53 ∷ 53 ∷ 51 ∷ 54 ∷ 32 ∷ 49 ∷ [])
     -- O 4294967295 0: the largest id
-    ∷ says (outcome 4294967295 false) (79 ∷ 32 ∷ 52 ∷ 50 ∷ 57 ∷ 52 ∷ 57 ∷ 54 ∷ 55 ∷ 50 ∷ 57 ∷ 53 ∷ 32 ∷ 48 ∷ [])
+    ∷ says (outcome 4294967295 false)
+    (79 ∷ 32 ∷ 52 ∷ 50 ∷ 57 ∷ 52 ∷ 57 ∷ 54 ∷ 55 ∷ 50 ∷ 57 ∷ 53 ∷ 32 ∷ 48 ∷ [])
     -- O 0000000001 1: ten digits
     ∷ says (outcome 1 true) (79 ∷ 32 ∷ 48 ∷ 48 ∷ 48 ∷ 48 ∷ 48 ∷ 48 ∷ 48 ∷ 48 ∷ 48 ∷ 49 ∷ 32 ∷ 49 ∷ [])
     -- P 3 +1 65528 0 0: a kind and a variable that the call refuses

@@ -1,6 +1,8 @@
 -- What a call moved, of what std answered.
-use Rattle.std.proofs.Common.{◌≡◌, ℕ, ◌≤◌, ◌<◌, ◌+◌, ◌-◌, ◌⊎◌, inl, inr, Bool, true, false, cond, eqb, ℤ, pos, negsuc, List, [], length, take, min, Option, None, Some, Result, Ok, Err, IsTrue, IsSome, IfOk, OnOk, IfErr, refl, sym, subst, ◌∙◌, arith, append-nil}
+use Rattle.std.proofs.Common.{◌≡◌, ℕ, ◌≤◌, ◌<◌, ◌+◌, ◌-◌, ◌++◌, ◌⊎◌, inl, inr, Bool, true, false, cond, eqb, ℤ, pos, negsuc, List, [], length, take, drop, ap, min, Option, None, Some, Result, Ok, Err, IsTrue, IsSome, IfOk, OnOk, IfErr, refl, sym, subst, ◌∙◌, arith, append-nil}
 use Rattle.std.proofs.lemmas.Bool.{true≢false}
+use Rattle.std.proofs.lemmas.List.{take_rest}
+use lib.Seq.{take-add}
 use Rattle.std.specs.Io.KnownBytes.{Keeps, Appends, Consumes, IsAtEnd, ReadConsumes, WriteAppends}
 use Rattle.std.specs.declared.io.Error.{Error}
 use Rattle.transfer.specs.declared.Moved.{Moved}
@@ -145,3 +147,7 @@ pub turn : (failed : Bool) (old new : Option Error) (done n turns most : ℕ) �
 turn true old new done n turns most said kept moved some h = inl (said refl)
 turn false old new done n turns most said kept moved some (inl h) = inl (rw (kept refl) h)
 turn false old new done n turns most said kept moved some (inr h) = let more : 0 < n = moved refl in inr (omega arith)
+
+-- the bytes up to `done`, and the first n of those behind
+pub written_more : (done n : ℕ) (xs : List ℕ) → take (done + n) xs ≡ take done xs ++ take n (take (length xs - done) (drop done xs))
+written_more done n xs = take-add done n xs ∙ ap (λ l. take done xs ++ take n l) (sym (take_rest xs done))

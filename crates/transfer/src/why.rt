@@ -1,4 +1,8 @@
 // Why a call failed, on standard error.
+ghost use Rattle.std.specs.Prelude.{◌≤◌, length, take};
+ghost use Rattle.std.specs.Io.KnownBytes.{Appends};
+ghost use Rattle.transfer.specs.Why.{SaysWhy};
+
 use std::fmt::InlineText;
 use std::io;
 use std::io::Write;
@@ -9,14 +13,30 @@ const NUMBER: &str = " (os error ";
 // How many bytes of an error's text are written, at most.
 const MOST_TEXT: usize = 256;
 
-// A line: what failed, in the caller's words, a colon and the error's text. A part of it that cannot be written at once is lost: nothing
-// waits for standard error.
-pub fn say_why<E: Write>(err: &mut E, words: &[u8], error: io::Error) {
+// Writes the bytes up to the first call that fails or takes nothing, and tells how many it wrote: nothing waits.
+fn write_at_once<W: Write>(writer: &mut W, bytes: &[u8]) -> usize
+    ensures count { result ≤ length bytes.now }
+    ensures bytes { Appends (W.contents writer.old) (W.contents writer.new) (take result bytes.now) }
+{
+    let mut done: usize = 0;
+    while done < bytes.len() {
+        match writer.write(&bytes[done..]) {
+            Ok(0) | Err(_) => return done,
+            Ok(n) => done += n,
+        }
+    }
+    done
+}
+
+// A line: what failed, in the caller's words, a colon and the error's text. A part of it that cannot be written at once is lost.
+pub fn say_why<E: Write>(err: &mut E, words: &[u8], error: io::Error)
+    ensures { SaysWhy (E.contents err.old) (E.contents err.new) words.now }
+{
     let text = InlineText::<MOST_TEXT>::of(error);
     let text = text.as_str();
     let why = text.split_once(NUMBER).map_or(text, |(why, _)| why);
-    let _ = err.write_all(words);
-    let _ = err.write_all(b": ");
-    let _ = err.write_all(why.as_bytes());
-    let _ = err.write_all(b"\n");
+    write_at_once(err, words);
+    write_at_once(err, b": ");
+    write_at_once(err, why.as_bytes());
+    write_at_once(err, b"\n");
 }

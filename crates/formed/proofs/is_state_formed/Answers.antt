@@ -10,27 +10,27 @@ use Rattle.formed.proofs.is_state_formed.Goals as goal
 
 pub returns-then-queued-gt-MOST_QUEUED : goal.returns-then-queued-gt-MOST_QUEUED
 returns-then-queued-gt-MOST_QUEUED c =
-    let k = (let this : (length c.args.s.beliefs.items ≡ 64) × (c.args.s.taken ≤ most_number) × (c.args.s.made ≤ most_number) = (search (rules, length-mapped), search rules, search rules) in this) in
+    let k : (length c.args.s.beliefs.items ≡ 64) × (c.args.s.taken ≤ most_number) × (c.args.s.made ≤ most_number) = (search (rules, length-mapped), search rules, search rules) in
     queue_too_long c.args.library.now c.args.s k.0 k.1 k.2 c.if-queued-gt-MOST_QUEUED.true
 
 pub returns-then-stacked-gt-MOST_STACKS : goal.returns-then-stacked-gt-MOST_STACKS
 returns-then-stacked-gt-MOST_STACKS c =
-    let k = (let this : (length c.args.s.beliefs.items ≡ 64) × (c.args.s.taken ≤ most_number) × (c.args.s.made ≤ most_number) = (search (rules, length-mapped), search rules, search rules) in this) in
+    let k : (length c.args.s.beliefs.items ≡ 64) × (c.args.s.taken ≤ most_number) × (c.args.s.made ≤ most_number) = (search (rules, length-mapped), search rules, search rules) in
     stacks_too_many c.args.library.now c.args.s k.0 k.1 k.2 c.if-queued-gt-MOST_QUEUED.false c.if-stacked-gt-MOST_STACKS.true
 
 pub returns-then-not-is_table : goal.returns-then-not-is_table
 returns-then-not-is_table c =
-    let k = (let this : (length c.args.s.beliefs.items ≡ 64) × (c.args.s.taken ≤ most_number) × (c.args.s.made ≤ most_number) = (search (rules, length-mapped), search rules, search rules) in this) in
+    let k : (length c.args.s.beliefs.items ≡ 64) × (c.args.s.taken ≤ most_number) × (c.args.s.made ≤ most_number) = (search (rules, length-mapped), search rules, search rules) in
     no_table c.args.library.now c.args.s k.0 k.1 k.2 c.if-queued-gt-MOST_QUEUED.false c.if-stacked-gt-MOST_STACKS.false (sym c.is_table.ensures ∙ c.if-not-is_table.true)
 
 pub returns-then-not-are_stacks : goal.returns-then-not-are_stacks
 returns-then-not-are_stacks c =
-    let k = (let this : (length c.args.s.beliefs.items ≡ 64) × (c.args.s.taken ≤ most_number) × (c.args.s.made ≤ most_number) = (search (rules, length-mapped), search rules, search rules) in this) in
+    let k : (length c.args.s.beliefs.items ≡ 64) × (c.args.s.taken ≤ most_number) × (c.args.s.made ≤ most_number) = (search (rules, length-mapped), search rules, search rules) in
     no_stacks c.args.library.now c.args.s k.0 k.1 k.2 c.if-queued-gt-MOST_QUEUED.false c.if-stacked-gt-MOST_STACKS.false (sym c.is_table.ensures ∙ c.if-not-is_table.false) (sym c.are_stacks.ensures ∙ c.if-not-are_stacks.true)
 
 pub returns-then-not-are_events : goal.returns-then-not-are_events
 returns-then-not-are_events c =
-    let k = (let this : (length c.args.s.beliefs.items ≡ 64) × (c.args.s.taken ≤ most_number) × (c.args.s.made ≤ most_number) = (search (rules, length-mapped), search rules, search rules) in this) in
+    let k : (length c.args.s.beliefs.items ≡ 64) × (c.args.s.taken ≤ most_number) × (c.args.s.made ≤ most_number) = (search (rules, length-mapped), search rules, search rules) in
     no_events c.args.library.now c.args.s k.0 k.1 k.2 c.if-queued-gt-MOST_QUEUED.false c.if-stacked-gt-MOST_STACKS.false (sym c.is_table.ensures ∙ c.if-not-is_table.false) (sym c.are_stacks.ensures ∙ c.if-not-are_stacks.false) (sym c.are_events.ensures ∙ c.if-not-are_events.true)
 
 pub are_jobs-requires : goal.are_jobs-requires
@@ -38,7 +38,7 @@ are_jobs-requires c = jobs-few c.args.s c.live_jobs-jobs.result c.live_jobs-jobs
 
 pub returns-then-not-are_jobs : goal.returns-then-not-are_jobs
 returns-then-not-are_jobs c =
-    let k = (let this : (length c.args.s.beliefs.items ≡ 64) × (c.args.s.taken ≤ most_number) × (c.args.s.made ≤ most_number) = (search (rules, length-mapped), search rules, search rules) in this) in
+    let k : (length c.args.s.beliefs.items ≡ 64) × (c.args.s.taken ≤ most_number) × (c.args.s.made ≤ most_number) = (search (rules, length-mapped), search rules, search rules) in
     no_jobs c.args.library.now c.args.s k.0 k.1 k.2 c.if-queued-gt-MOST_QUEUED.false c.if-stacked-gt-MOST_STACKS.false (sym c.is_table.ensures ∙ c.if-not-is_table.false) (sym c.are_stacks.ensures ∙ c.if-not-are_stacks.false) (sym c.are_events.ensures ∙ c.if-not-are_events.false) c.live_jobs-jobs.result c.live_jobs-jobs.ensures (sym c.are_jobs.ensures ∙ c.if-not-are_jobs.true)
 
 pub all_served-requires : goal.all_served-requires
@@ -46,7 +46,7 @@ all_served-requires c = (c.if-queued-gt-MOST_QUEUED.false, jobs-few c.args.s c.l
 
 pub returns-then-not-all_served : goal.returns-then-not-all_served
 returns-then-not-all_served c =
-    let k = (let this : (length c.args.s.beliefs.items ≡ 64) × (c.args.s.taken ≤ most_number) × (c.args.s.made ≤ most_number) = (search (rules, length-mapped), search rules, search rules) in this) in
+    let k : (length c.args.s.beliefs.items ≡ 64) × (c.args.s.taken ≤ most_number) × (c.args.s.made ≤ most_number) = (search (rules, length-mapped), search rules, search rules) in
     unserved c.args.library.now c.args.s k.0 k.1 k.2 c.if-queued-gt-MOST_QUEUED.false c.if-stacked-gt-MOST_STACKS.false (sym c.is_table.ensures ∙ c.if-not-is_table.false) (sym c.are_stacks.ensures ∙ c.if-not-are_stacks.false) (sym c.are_events.ensures ∙ c.if-not-are_events.false) c.live_jobs-jobs.result c.live_jobs-jobs.ensures (sym c.are_jobs.ensures ∙ c.if-not-are_jobs.false) (sym c.all_served.ensures ∙ c.if-not-all_served.true)
 
 pub have_goals-requires : goal.have_goals-requires
@@ -54,7 +54,7 @@ have_goals-requires c = (c.if-queued-gt-MOST_QUEUED.false, jobs-few c.args.s c.l
 
 pub returns-then-not-have_goals : goal.returns-then-not-have_goals
 returns-then-not-have_goals c =
-    let k = (let this : (length c.args.s.beliefs.items ≡ 64) × (c.args.s.taken ≤ most_number) × (c.args.s.made ≤ most_number) = (search (rules, length-mapped), search rules, search rules) in this) in
+    let k : (length c.args.s.beliefs.items ≡ 64) × (c.args.s.taken ≤ most_number) × (c.args.s.made ≤ most_number) = (search (rules, length-mapped), search rules, search rules) in
     no_goals c.args.library.now c.args.s k.0 k.1 k.2 c.if-queued-gt-MOST_QUEUED.false c.if-stacked-gt-MOST_STACKS.false (sym c.is_table.ensures ∙ c.if-not-is_table.false) (sym c.are_stacks.ensures ∙ c.if-not-are_stacks.false) (sym c.are_events.ensures ∙ c.if-not-are_events.false) c.live_jobs-jobs.result c.live_jobs-jobs.ensures (sym c.are_jobs.ensures ∙ c.if-not-are_jobs.false) (sym c.all_served.ensures ∙ c.if-not-all_served.false) (sym c.have_goals.ensures ∙ c.if-not-have_goals.true)
 
 pub have_posters-requires : goal.have_posters-requires
@@ -62,5 +62,5 @@ have_posters-requires c = (c.if-queued-gt-MOST_QUEUED.false, jobs-few c.args.s c
 
 pub returns : goal.returns
 returns c =
-    let k = (let this : (length c.args.s.beliefs.items ≡ 64) × (c.args.s.taken ≤ most_number) × (c.args.s.made ≤ most_number) = (search (rules, length-mapped), search rules, search rules) in this) in
+    let k : (length c.args.s.beliefs.items ≡ 64) × (c.args.s.taken ≤ most_number) × (c.args.s.made ≤ most_number) = (search (rules, length-mapped), search rules, search rules) in
     c.have_posters.ensures ∙ posters_decide c.args.library.now c.args.s k.0 k.1 k.2 c.if-queued-gt-MOST_QUEUED.false c.if-stacked-gt-MOST_STACKS.false (sym c.is_table.ensures ∙ c.if-not-is_table.false) (sym c.are_stacks.ensures ∙ c.if-not-are_stacks.false) (sym c.are_events.ensures ∙ c.if-not-are_events.false) c.live_jobs-jobs.result c.live_jobs-jobs.ensures (sym c.are_jobs.ensures ∙ c.if-not-are_jobs.false) (sym c.all_served.ensures ∙ c.if-not-all_served.false) (sym c.have_goals.ensures ∙ c.if-not-have_goals.false)

@@ -53,7 +53,7 @@ pub overflow_mul-value : goal.overflow_mul-value
 overflow_mul-value c = let l = c.loop-i in omega (arith, power_small (l.i - c.args.at) (omega arith))
 
 pub overflow_add-value : goal.overflow_add-value
-overflow_add-value c = let l = c.loop-i in omega (arith, power_small (l.i - c.args.at) (omega arith), c.shared_slice_known-1.given l.i)
+overflow_add-value c = let l = c.loop-i in omega (arith, power_small (l.i - c.args.at) (omega arith), c.type_inv.s l.i)
 
 pub loop-i-preserved : goal.loop-i-preserved
 loop-i-preserved c =

@@ -15,21 +15,24 @@ loop-place-init c = (omega arith, refl)
 
 pub returns-then-m : goal.returns-then-m
 returns-then-m c =
+    let within : size c.args.beliefs ≤ length c.args.beliefs.items = let len : length c.args.beliefs.items ≡ 64 = search (rules, length-mapped) in omega arith in
     let m = c.match_literal-m in
     let a = c.args in
     let h : c.loop-place.place < size a.beliefs = omega arith in
-    ask_hit a.l a.env a.beliefs.items (size a.beliefs) (let this : size c.args.beliefs ≤ length c.args.beliefs.items = let len : length c.args.beliefs.items ≡ 64 = search (rules, length-mapped) in omega arith in this) _ c.loop-place.place m.result h m.ensures c.if-m.true
+    ask_hit a.l a.env a.beliefs.items (size a.beliefs) within _ c.loop-place.place m.result h m.ensures c.if-m.true
     ∙ ap (answer a.env) (c.loop-place.invariant.1 ∙ sym (ask-first (view a.beliefs) a.l a.env))
 
 pub loop-place-preserved : goal.loop-place-preserved
 loop-place-preserved c =
+    let within : size c.args.beliefs ≤ length c.args.beliefs.items = let len : length c.args.beliefs.items ≡ 64 = search (rules, length-mapped) in omega arith in
     let m = c.match_literal-m in
     let a = c.args in
     let h : c.loop-place.place < size a.beliefs = omega arith in
-    (omega arith, ask-miss a.l a.env a.beliefs.items (size a.beliefs) (let this : size c.args.beliefs ≤ length c.args.beliefs.items = let len : length c.args.beliefs.items ≡ 64 = search (rules, length-mapped) in omega arith in this) _ c.loop-place.place m.result h m.ensures c.if-m.false ∙ c.loop-place.invariant.1)
+    (omega arith, ask-miss a.l a.env a.beliefs.items (size a.beliefs) within _ c.loop-place.place m.result h m.ensures c.if-m.false ∙ c.loop-place.invariant.1)
 
 pub returns : goal.returns
 returns c =
+    let within : size c.args.beliefs ≤ length c.args.beliefs.items = let len : length c.args.beliefs.items ≡ 64 = search (rules, length-mapped) in omega arith in
     let a = c.args in
     let h : size a.beliefs ≤ c.loop-place.place = omega arith in
-    ap (answer a.env) (sym (ask-end a.l a.env a.beliefs.items (size a.beliefs) (let this : size c.args.beliefs ≤ length c.args.beliefs.items = let len : length c.args.beliefs.items ≡ 64 = search (rules, length-mapped) in omega arith in this) c.loop-place.place h) ∙ c.loop-place.invariant.1 ∙ sym (ask-first (view a.beliefs) a.l a.env))
+    ap (answer a.env) (sym (ask-end a.l a.env a.beliefs.items (size a.beliefs) within c.loop-place.place h) ∙ c.loop-place.invariant.1 ∙ sym (ask-first (view a.beliefs) a.l a.env))

@@ -1,14 +1,8 @@
-use Rattle.std.proofs.Common.{◌≡◌, ℕ, ◌+◌, ◌-◌, List, ◌++◌, rules, sym, ap, ◌∙◌, subst, take, drop, length}
+use Rattle.std.proofs.Common.{rules, sym, subst}
 use Rattle.std.proofs.KnownBytes.{Appends-trans}
 use Rattle.std.specs.Io.KnownBytes.{Appends}
-use Rattle.std.proofs.lemmas.List.{take_rest}
-use lib.Seq.{take-add}
-use Rattle.transfer.proofs.OutcomeLaws.{turn}
+use Rattle.transfer.proofs.OutcomeLaws.{turn, written_more}
 use Rattle.transfer.proofs.write_all.Goals as goal
-
--- the bytes up to `done`, and the first n of those behind
-split : (done n : ℕ) (xs : List ℕ) → take (done + n) xs ≡ take done xs ++ take n (take (length xs - done) (drop done xs))
-split done n xs = take-add done n xs ∙ ap (λ l. take done xs ++ take n l) (sym (take_rest xs done))
 
 pub loop-turns-preserved : goal.loop-turns-preserved
 loop-turns-preserved g c =
@@ -17,7 +11,7 @@ loop-turns-preserved g c =
     let done = c.loop-turns.done in
     let n = c.try_write-put.result.count in
     let failed = c.try_write-put.result.failed in
-    let parts = split done n c.args.bytes.now in
+    let parts = written_more done n c.args.bytes.now in
     let left = c.loop-turns-test.true in
     record {
       count = search rules;

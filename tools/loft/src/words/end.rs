@@ -44,9 +44,9 @@ impl Words<'_> {
 
     pub(super) fn refused(&self, refused: &Refused, step: &Step, call: &[u8], text: &mut String) {
         let number = if let Deed::Refused(number) = step.deed { number } else { 0 };
-        let (what, todo) = self.refusal(refused, call);
+        let (what, advice) = self.refusal(refused, call);
         text.push_str(&format!("REFUSED, X {number}: {what}"));
-        self.note(text, &format!("nothing was changed; {todo}"));
+        self.note(text, &format!("nothing was changed; {advice}"));
     }
 
     /// What a refusal means, and what to do.

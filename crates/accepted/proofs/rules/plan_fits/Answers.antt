@@ -84,9 +84,7 @@ returns-then-end-eq-NOWHERE c =
 pub returns : goal.returns
 unfolding plan_at
 returns c =
-    let a =
-    c.args
-    in
+    let a = c.args in
     let bytes = a.library.now in
     let trigger = c.if-not-trigger_ok.false in
     let end = ap₂ ◌+◌ c.entry_offset.ensures c.entry_length.ensures in

@@ -9,4 +9,6 @@ pub look_by-requires : goal.look_by-requires
 look_by-requires c = c.requires
 
 pub returns : goal.returns
-returns c = looked c.args.s (let this : Sized c.args.s = record { queue = search (rules, length-mapped); stacks = search (rules, length-mapped) } in this) _ _ c.look_by.result c.look_by.ensures
+returns c =
+    let sized : Sized c.args.s = record { queue = search (rules, length-mapped); stacks = search (rules, length-mapped) } in
+    looked c.args.s sized _ _ c.look_by.result c.look_by.ensures

@@ -25,10 +25,11 @@ cycle_on-requires c =
 
 pub turn-requires : goal.turn-requires
 turn-requires c =
+    let sized : Sized c.args.s = record { queue = search (rules, length-mapped); stacks = search (rules, length-mapped) } in
     let a = c.args in
     let told = subst (Looked a.formed a.s (meaning a.spoken)) c.in-Turns.is c.requires.1.0 in
     let is = subst (λ (l : Look). a.stack ≡ stack_at a.s (place_of l)) c.in-Turns.is c.requires.1.1 in
-    turn_runnable a.library.now a.s (let this : Sized c.args.s = record { queue = search (rules, length-mapped); stacks = search (rules, length-mapped) } in this) (c.requires.0 told.0) _ a.stack is told.4
+    turn_runnable a.library.now a.s sized (c.requires.0 told.0) _ a.stack is told.4
 
 pub returns-in-Answered : goal.returns-in-Answered
 returns-in-Answered c =
@@ -39,10 +40,11 @@ returns-in-Answered c =
 pub returns-in-Reports : goal.returns-in-Reports
 unfolding act
 returns-in-Reports c =
+    let sized : Sized c.args.s = record { queue = search (rules, length-mapped); stacks = search (rules, length-mapped) } in
     let a = c.args in
     let told = subst (Looked a.formed a.s (meaning a.spoken)) c.in-Reports.is c.requires.1.0 in
     let w = c.requires.0 told.0 in
-    let hear = hears a.library.now a.s w.fit w.formed (let this : Sized c.args.s = record { queue = search (rules, length-mapped); stacks = search (rules, length-mapped) } in this) w.accepted _ _ in
+    let hear = hears a.library.now a.s w.fit w.formed sized w.accepted _ _ in
     as_told a.library.now a.s told.0 told.1
     (responds_act a.library.now a.s (report _ _) (applied a.s c.report_on.result) (report_gives a.s _ _ hear c.report_on.result c.report_on.ensures))
 
@@ -55,16 +57,18 @@ returns-in-Searches c =
 
 pub returns-in-Turns : goal.returns-in-Turns
 returns-in-Turns c =
+    let sized : Sized c.args.s = record { queue = search (rules, length-mapped); stacks = search (rules, length-mapped) } in
     let a = c.args in
     let told = subst (Looked a.formed a.s (meaning a.spoken)) c.in-Turns.is c.requires.1.0 in
     let is = subst (λ (l : Look). a.stack ≡ stack_at a.s (place_of l)) c.in-Turns.is c.requires.1.1 in
     as_told a.library.now a.s told.0 told.1
-    (turn_responds a.library.now a.s (let this : Sized c.args.s = record { queue = search (rules, length-mapped); stacks = search (rules, length-mapped) } in this) (c.requires.0 told.0) _ a.stack is told.4 told.2 told.3 c.turn.result c.turn.ensures)
+    (turn_responds a.library.now a.s sized (c.requires.0 told.0) _ a.stack is told.4 told.2 told.3 c.turn.result c.turn.ensures)
 
 pub returns-in-Tells : goal.returns-in-Tells
 returns-in-Tells c =
+    let sized : Sized c.args.s = record { queue = search (rules, length-mapped); stacks = search (rules, length-mapped) } in
     let a = c.args in
     let told = subst (Looked a.formed a.s (meaning a.spoken)) c.in-Tells.is c.requires.1.0 in
     let is = subst (λ (l : Look). a.stack ≡ stack_at a.s (place_of l)) c.in-Tells.is c.requires.1.1 in
     as_told a.library.now a.s told.0 told.1.1
-    (tell_responds a.library.now a.s (let this : Sized c.args.s = record { queue = search (rules, length-mapped); stacks = search (rules, length-mapped) } in this) (c.requires.0 told.0) _ a.stack is told.1.3 told.1.0 _ told.1.2 c.tell_at.result c.tell_at.ensures)
+    (tell_responds a.library.now a.s sized (c.requires.0 told.0) _ a.stack is told.1.3 told.1.0 _ told.1.2 c.tell_at.result c.tell_at.ensures)

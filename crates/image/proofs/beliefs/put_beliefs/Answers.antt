@@ -17,8 +17,7 @@ loop-i-init c = (omega arith, refl, nothing)
 
 pub loop-i-preserved : goal.loop-i-preserved
 loop-i-preserved c =
-    let items =
-    c.args.table.items in
+    let items = c.args.table.items in
     let long : length c.args.table.items ≡ most_beliefs = search (rules, length-mapped) in
     let low : c.loop-i.i < length items = omega arith in
     (search rules, c.put_literal-o.auto.out ∙ c.loop-i.invariant.1, next_part literal_bytes literal_size items c.loop-i.i _ low c.loop-i.invariant.2 c.put_literal-o.ensures)

@@ -10,7 +10,7 @@ pub returns-then-bytes-at : goal.returns-then-bytes-at
 returns-then-bytes-at c = sym (u16_past c.args.bytes.now c.args.at c.if-bytes-at.true)
 
 pub overflow_cast-result : goal.overflow_cast-result
-overflow_cast-result c = omega (arith, c.shared_slice_known-1.given c.args.at)
+overflow_cast-result c = omega (arith, c.type_inv.bytes c.args.at)
 
 pub returns-then-bytes-at-lt2 : goal.returns-then-bytes-at-lt2
 unfolding u16_at
