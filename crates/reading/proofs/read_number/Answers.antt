@@ -1,4 +1,4 @@
--- `reading::read_number_lem` meets its contract: by whether the word's digits are all of it, and how much they say.
+-- `reading::read_number` meets its contract: by whether the word's digits are all of it, and how much they say.
 use native.Mathlib.Omega.{arith}
 use mathlib.Core.Path.{sym}
 use Rattle.reading.specs.Call.{largest_number}
