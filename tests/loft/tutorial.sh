@@ -9,13 +9,13 @@ program=${PROVED:-crates/canarystand/out/canarystand}
 [ -x "$program" ] || { echo "$program is missing: rt ci builds it"; exit 1; }
 folder=$(mktemp -d)
 trap 'rm -rf "$folder"' EXIT
-mkdir "$folder/bin" "$folder/work"
+mkdir "$folder/bin" "$folder/sources"
 ln -s "$PWD/target/cargo/release/loft" "$folder/bin/loft"
 ln -s "$(realpath "$program")" "$folder/bin/canarystand"
 
 # says COMMAND: fails where the command prints something else than what the page shows.
 says() {
-    (cd "$folder/work" && PATH=$folder/bin:$PATH bash -c "$1") > "$folder/got" 2>&1 || true
+    (cd "$folder/sources" && PATH=$folder/bin:$PATH bash -c "$1") > "$folder/got" 2>&1 || true
     cmp -s "$folder/shown" "$folder/got" || { echo "$page: '$1' says something else:"; diff "$folder/shown" "$folder/got"; return 1; }
 }
 
@@ -28,7 +28,7 @@ while IFS= read -r line; do
         file='' command=''
     else
         case ${line#'```'} in
-        plan\ * | input\ *) file=$folder/work/${line#* } ;;
+        plan\ * | input\ *) file=$folder/sources/${line#* } ;;
         says\ *) file=$folder/shown command=${line#* } ;;
         *) file=/dev/null ;;
         esac
@@ -37,7 +37,7 @@ while IFS= read -r line; do
 done < "$page"
 
 # The plans that the page does not show a fault of have none.
-for source in "$folder"/work/{cell,lock,offcuts}.plan; do
+for source in "$folder"/sources/{cell,lock,offcuts}.plan; do
     grep -q '; 0 warnings$' <("$folder/bin/loft" check "$source" 2>&1) || { echo "$page: ${source##*/} has faults"; exit 1; }
 done
 echo "loft: $count commands of $page say what it shows"
