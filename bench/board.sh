@@ -20,8 +20,7 @@ const BUFFER: usize = 65536;
 fn run(agent: Agent, out: &mut [u8], n: u32) -> usize {
     let mut size: usize = 0;
     for _ in 0..n {
-        let shown = board::board(agent, out);
-        size = shown.size;
+        size = board::board(agent, out).unwrap_or(0);
     }
     size
 }
@@ -30,12 +29,12 @@ fn main(rt: HostRuntime) {
     let mut input = [0u8; BUFFER];
     let mut out = [0u8; BUFFER];
     let mut stdin = rt.stdin();
-    let mut error = None;
-    let got = transfer::read_full(&rt, &mut stdin, &mut input, &mut error);
-    let n = got.count;
-    let restored = image::restore::restore(&input[..n]);
-    let agent = restored.agent;
-    if run(agent, &mut out, 10000) == 0 {
+    let n = transfer::read_full(&rt, &mut stdin, &mut input).unwrap_or(0);
+    let boards = match image::restore::restore(&input[..n]) {
+        Ok(agent) => run(agent, &mut out, 10000),
+        Err(_) => 0,
+    };
+    if boards == 0 {
         let _ = rt.write_all(b"no board\n");
     }
 }

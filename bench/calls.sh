@@ -43,22 +43,24 @@ fn reported(a: Agent) -> Agent {
 }
 
 fn main(rt: HostRuntime) {
-    let loaded = load::load(&[
+    let Ok(mut agent) = load::load(&[
         1, 0, 0, 0, 8, 0, 50, 0, 0, 0, 1, 0, 248, 255, 0, 0, 0, 0, 1, 0, 0, 0, 1, 0, 0, 0, 1, 0, 1, 0, 1, 0,
         248, 255, 0, 0, 0, 0, 0, 0, 2, 0, 1, 0, 2, 0, 9, 0, 248, 255, 0, 0, 0, 0, 1, 0, 0, 0,
-    ]);
-    let mut agent = loaded.agent;
+    ]) else {
+        return;
+    };
     let mut input = [0u8; BUFFER];
     let mut stdin = rt.stdin();
-    let mut error = None;
-    let got = transfer::read_full(&rt, &mut stdin, &mut input, &mut error);
-    let n = got.count;
+    let n = transfer::read_full(&rt, &mut stdin, &mut input).unwrap_or(0);
     if n == 1 {
         agent = reported(agent);
     }
     if 1 < n {
-        let given = load::load(&input[..n]);
-        agent = given.agent;
+        let Ok(given) = load::load(&input[..n]) else {
+            let _ = rt.write_all(b"no library\n");
+            return;
+        };
+        agent = given;
     }
     let last = run(agent, 1000000);
     if last.length == 0 {

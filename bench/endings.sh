@@ -20,8 +20,9 @@ const BUFFER: usize = 65536;
 fn run(library: &[u8], n: usize) -> u32 {
     let mut sum: u32 = 0;
     for i in 0..n {
-        let given = endings::endings_of(library, 0, i % 16);
-        sum = given.counts.succeeded;
+        if let Ok(counts) = endings::endings_of(library, 0, i % 16) {
+            sum = counts.succeeded;
+        }
     }
     sum
 }
@@ -29,9 +30,7 @@ fn run(library: &[u8], n: usize) -> u32 {
 fn main(rt: HostRuntime) {
     let mut input = [0u8; BUFFER];
     let mut stdin = rt.stdin();
-    let mut error = None;
-    let got = transfer::read_full(&rt, &mut stdin, &mut input, &mut error);
-    let n = got.count;
+    let n = transfer::read_full(&rt, &mut stdin, &mut input).unwrap_or(0);
     if run(&input[..n], 16000) == 0 {
         let _ = rt.write_all(b"none of length 15\n");
     }

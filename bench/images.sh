@@ -22,8 +22,9 @@ const BUFFER: usize = 65536;
 fn run(bytes: &[u8], n: u32) -> usize {
     let mut size: usize = 0;
     for _ in 0..n {
-        let restored = image::restore::restore(bytes);
-        size = restored.agent.length;
+        if let Ok(agent) = image::restore::restore(bytes) {
+            size = agent.length;
+        }
     }
     size
 }
@@ -31,8 +32,7 @@ fn run(bytes: &[u8], n: u32) -> usize {
 fn saves(agent: Agent, out: &mut [u8], n: u32) -> usize {
     let mut size: usize = 0;
     for _ in 0..n {
-        let saved = image::save::save(agent, out);
-        size = saved.size;
+        size = image::save::save(agent, out).unwrap_or(0);
     }
     size
 }
@@ -41,9 +41,10 @@ fn made(kind: u8, bytes: &[u8], out: &mut [u8]) -> usize {
     if kind == b'r' {
         return run(bytes, 10000);
     }
-    let restored = image::restore::restore(bytes);
-    let agent = restored.agent;
-    saves(agent, out, 10000)
+    match image::restore::restore(bytes) {
+        Ok(agent) => saves(agent, out, 10000),
+        Err(_) => 0,
+    }
 }
 
 fn main(rt: HostRuntime) {
@@ -51,10 +52,8 @@ fn main(rt: HostRuntime) {
     let mut out = [0u8; BUFFER];
     let mut kind = [0u8; 1];
     let mut stdin = rt.stdin();
-    let mut error = None;
-    transfer::read_full(&rt, &mut stdin, &mut kind, &mut error);
-    let got = transfer::read_full(&rt, &mut stdin, &mut input, &mut error);
-    let n = got.count;
+    let _ = transfer::read_full(&rt, &mut stdin, &mut kind);
+    let n = transfer::read_full(&rt, &mut stdin, &mut input).unwrap_or(0);
     if made(kind[0], &input[..n], &mut out) == 0 {
         let _ = rt.write_all(b"refused\n");
     }

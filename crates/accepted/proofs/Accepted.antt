@@ -8,7 +8,8 @@ use native.Mathlib.Omega.{arith}
 use borrow.Author.Tests.{leb-true, ltb-true, eqb-true, eqb-false, eq-eqb, ne_eqb, le-leb}
 use lib.ListN.{length, get_or, take, drop}
 use lib.Dec.{leb, ltb, eqb}
-use Rattle.lists.specs.Search.{all, distinct}
+use Rattle.std.specs.List.{list_all}
+use Rattle.lists.specs.Search.{distinct}
 use Rattle.lists.proofs.BoolLaws.{and_parts, both_ways}
 use Rattle.lists.proofs.AllLaws.{all_at, distinct_at}
 use Rattle.literal.specs.Literal.{negative, is_ground, same}
@@ -21,7 +22,7 @@ use Rattle.library.specs.Layout.{plan_count, belief_count, plans_off, entry_off,
 use Rattle.accepted.specs.Rules.{branch_ok, plan_ok, beliefs_ok, library_ok}
 use Rattle.accepted.specs.Refusal.{contents_fit, packed_from, is_packed, plan_fits_at, plan_fits, plans_fit, refusal_of, Accepted, part_refusal_of, part_of}
 use Rattle.library.proofs.FieldLaws.{field_is}
-use Rattle.library.proofs.RowLaws.{length-items, items_at, items-all}
+use Rattle.library.proofs.RowLaws.{length-items, items-all, range_at}
 use Rattle.library.proofs.PartLaws.{length-beliefs}
 use Rattle.accepted.proofs.RuleFacts.{KeepsRules, keeps_rules, branch_ok_lem, kind_in_lem, positive, division, next_above, next_below}
 
@@ -74,13 +75,13 @@ module _ (bytes : List ℕ) (accepted : Accepted bytes) where
   pub few-beliefs : length (beliefs_of bytes) ≤ 64
   few-beliefs = rw (length-beliefs bytes) contents.1
 
-  pub beliefs_ground : all is_ground (beliefs_of bytes) ≡ true
+  pub beliefs_ground : list_all is_ground (beliefs_of bytes) ≡ true
   unfolding beliefs_ok
-  beliefs_ground = (and_parts (all is_ground (beliefs_of bytes)) _ passed.2).0
+  beliefs_ground = (and_parts (list_all is_ground (beliefs_of bytes)) _ passed.2).0
 
   pub beliefs-distinct : distinct same (beliefs_of bytes) ≡ true
   unfolding beliefs_ok
-  beliefs-distinct = (and_parts (distinct same (beliefs_of bytes)) _ (and_parts (all is_ground (beliefs_of bytes)) _ passed.2).1).0
+  beliefs-distinct = (and_parts (distinct same (beliefs_of bytes)) _ (and_parts (list_all is_ground (beliefs_of bytes)) _ passed.2).1).0
 
   pub belief_ground : (i : ℕ) → i < length (beliefs_of bytes) → is_ground (get_or (beliefs_of bytes) i no_literal) ≡ true
   belief_ground i h = all_at is_ground (beliefs_of bytes) i no_literal beliefs_ground h
@@ -100,7 +101,7 @@ module _ (bytes : List ℕ) (accepted : Accepted bytes) where
 
     pub plan_fits_lem : plan_fits bytes plan ≡ true
     unfolding plans_fit
-    plan_fits_lem = rw zero-add at (items_at (plan_fits bytes) (λ (k : ℕ). k) (plan_count bytes) 0 plan passed.3 there)
+    plan_fits_lem = rw zero-add at (range_at (plan_fits bytes) (plan_count bytes) 0 plan passed.3 there)
 
     -- a plan keeps the rules
     pub plan_ok_lem : plan_ok (plan_of bytes plan) ≡ true

@@ -3,18 +3,19 @@ use Prim.Native.Nat.{ℕ, zero, suc, ◌+◌, ◌*◌, ◌-◌, ◌<◌, ◌≤�
 use mathlib.Core.Path.{◌≡◌, refl, sym, ◌∙◌}
 use mathlib.Core.Bool.{Bool}
 use mathlib.Core.List.{List, [], ◌∷◌}
-use native.Mathlib.Numerals.{sub-one}
 use native.Mathlib.Omega.{arith}
-use lib.ListN.{length, get_or, set, length-set, replicate}
-use lib.Seq.{set_out, set-get_or, get_or-set_same, get_or-set_other}
+use lib.ListN.{length, take, drop, get_or, set, length-set, replicate}
+use native.Mathlib.Numerals.{add-one}
+use lib.Seq.{drop-cons, set_out, set-get_or, get_or-set_same, get_or-set_other}
 use lib.Dec.{ltb, eqb}
 use borrow.Author.Tests.{ltb-true, ltb-false, lt-ltb, le-ltb, eq-eqb, ne_eqb, eqb-true, eqb-false}
 use Rattle.lists.proofs.BoolLaws.{by_cases}
-use Rattle.lists.specs.Search.{all}
+use Rattle.std.specs.List.{list_all}
 use Rattle.library.specs.declared.Branch.{Branch}
 use Rattle.library.specs.Bytes.{u16_at, items, rows}
 use Rattle.accepted.specs.Rules.{numbers, entries_in, entries, is_tree}
-use Rattle.accepted.specs.Counts.{more, entered, counted_in, counted, is_once}
+use Rattle.library.proofs.RowLaws.{left_next, left_none, row_next}
+use Rattle.accepted.specs.Counts.{more, entered, counted_in, counted}
 
 -- ---- One branch
 
@@ -57,6 +58,11 @@ unfolding counted_in
 length-counted_in counts [] = refl
 length-counted_in counts (branch ∷ rest) = length-counted_in (entered counts branch.next) rest ∙ length-entered counts branch.next
 
+pub length-counted : (counts : List ℕ) (states : List (List Branch)) → length (counted counts states) ≡ length counts
+unfolding counted
+length-counted counts [] = refl
+length-counted counts (branches ∷ rest) = length-counted (counted_in counts branches) rest ∙ length-counted_in counts branches
+
 module _ (s : ℕ) where
   pub counted_in_lem : (counts : List ℕ) (branches : List Branch) → s < length counts → get_or counts s 0 ≤ 2
       → get_or (counted_in counts branches) s 0 ≡ min 2 (get_or counts s 0 + entries_in s branches)
@@ -83,36 +89,41 @@ module _ (s : ℕ) where
 
 -- ---- The loops
 
-pub branches-step : (read : ℕ → Branch) (width : ℕ) (counts : List ℕ) (n at next : ℕ) → next ≡ (read at).next → 0 < n
-    → counted_in (entered counts next) (items read width (n - 1) (at + width)) ≡ counted_in counts (items read width n at)
-unfolding counted_in items
-branches-step read width counts zero at next p h = absurd (omega arith)
-branches-step read width counts (suc n) at next p h = simp (sub-one, p)
+module _ (read : ℕ → Branch) (counts : List ℕ) (n i : ℕ) where
+  pub branches-step : (width from next : ℕ) → next ≡ (read (from + width * i)).next → i < n
+      → counted_in (entered counts next) (items read width (n - (i + 1)) (from + width * (i + 1))) ≡ counted_in counts (items read width (n - i) (from + width * i))
+  unfolding counted_in items
+  branches-step width from next p h =
+      let place : from + width * (i + 1) ≡ from + width * i + width = omega arith in
+      rw (left_next n i h, place, p) refl
 
-pub branches_done : (read : ℕ → Branch) (width : ℕ) (counts : List ℕ) (n at : ℕ) → n ≤ 0 → counts ≡ counted_in counts (items read width n at)
-unfolding counted_in items
-branches_done read width counts zero at h = refl
-branches_done read width counts (suc n) at h = absurd (omega arith)
+  pub branches_done : (width at : ℕ) → n ≤ i → counts ≡ counted_in counts (items read width (n - i) at)
+  unfolding counted_in items
+  branches_done width at h = rw (left_none n i h) refl
 
-pub states-step : (read : ℕ → Branch) (bytes : List ℕ) (width : ℕ) (counts : List ℕ) (n at branches : ℕ) → branches ≡ u16_at bytes at → 0 < n
-    → counted (counted_in counts (items read width branches (at + 2))) (rows read bytes width (n - 1) (at + 2 + width * branches))
-    ≡ counted counts (rows read bytes width n at)
-unfolding counted rows
-states-step read bytes width counts zero at branches p h = absurd (omega arith)
-states-step read bytes width counts (suc n) at branches p h = simp (sub-one, ← p)
+  module _ (bytes : List ℕ) (width at : ℕ) where
+    pub states-step : (branches : ℕ) → branches ≡ u16_at bytes at → i < n
+        → counted (counted_in counts (items read width branches (at + 2))) (rows read bytes width (n - (i + 1)) (at + (2 + width * branches)))
+        ≡ counted counts (rows read bytes width (n - i) at)
+    unfolding counted rows
+    states-step branches p h = rw (left_next n i h, row_next bytes width at branches, p) refl
 
-pub states_done : (read : ℕ → Branch) (bytes : List ℕ) (width : ℕ) (counts : List ℕ) (n at : ℕ) → n ≤ 0
-    → counts ≡ counted counts (rows read bytes width n at)
-unfolding counted rows
-states_done read bytes width counts zero at h = refl
-states_done read bytes width counts (suc n) at h = absurd (omega arith)
+    pub states_done : n ≤ i → counts ≡ counted counts (rows read bytes width (n - i) at)
+    unfolding counted rows
+    states_done h = rw (left_none n i h) refl
 
 -- ---- The counts decide
 
+-- a test of each of n counts from a place on, by their places
+pub counts_at : (test : ℕ → Bool) (counts : List ℕ) (n first : ℕ) → first + n ≤ length counts
+    → list_all test (take n (drop first counts)) ≡ list_all (λ state. test (get_or counts state 0)) (numbers n first)
+counts_at test counts zero first h = refl
+counts_at test counts (suc n) first h =
+    rw (drop-cons counts first 0 (omega arith), add-one first, counts_at test counts n (suc first) (omega arith)) refl
+
 -- two tests that agree on n numbers
 pub agree : (f g : ℕ → Bool) (n first : ℕ) → ((i : ℕ) → first ≤ i → i < first + n → f i ≡ g i)
-    → all f (numbers n first) ≡ all g (numbers n first)
-unfolding all items
+    → list_all f (numbers n first) ≡ list_all g (numbers n first)
 agree f g zero first h = refl
 agree f g (suc n) first h =
     rw (h first (omega arith) (omega arith), agree f g n (first + 1) (λ i low high. h i (omega arith) (omega arith)))
@@ -130,9 +141,12 @@ no_counts (suc n) (suc i) = no_counts n i
 -- from no counts for sixteen states, those of at most sixteen
 pub counts_decide : (zeros : List ℕ) → length zeros ≡ 16 → ((i : ℕ) → get_or zeros i 0 ≡ 0)
     → (states : List (List Branch)) (n : ℕ) → length states ≡ n → 1 ≤ n → n ≤ 16
-    → all (is_once (counted zeros states)) (numbers (n - 1) 1) ≡ is_tree states
+    → list_all (λ times. eqb times 1) (take (n - 1) (drop 1 (counted zeros states))) ≡ is_tree states
 unfolding is_tree
-counts_decide zeros size none states n e low high = rw e (agree _ _ (n - 1) 1 (λ i lower higher.
+counts_decide zeros size none states n e low high =
+    let long : 1 + (n - 1) ≤ length (counted zeros states) = omega (arith, length-counted zeros states) in
+    counts_at (λ times. eqb times 1) (counted zeros states) (n - 1) 1 long
+    ∙ rw e (agree _ _ (n - 1) 1 (λ i lower higher.
     let inside : i < length zeros = omega arith in
     let zero = none i in
     let all = counted-all i zeros states inside (omega arith) in

@@ -8,14 +8,15 @@ use native.Mathlib.Omega.{arith}
 use borrow.Author.Tests.{eq-eqb, eqb-true}
 use lib.ListN.{length, length-append}
 use lib.Dec.{eqb, ltb}
-use Rattle.lists.specs.Search.{all, any, distinct}
+use Rattle.std.specs.List.{list_all}
+use Rattle.lists.specs.Search.{distinct}
 use Rattle.lists.proofs.BoolLaws.{and_parts, and_both}
 use Rattle.literal.specs.Literal.{is_ground, same, opposite}
 use Rattle.library.specs.Bytes.{u16_at, items, rows, rows_end}
 use Rattle.library.specs.Layout.{situation_at, situation_end, actions_at, actions_end, states_at, states_end, maintenance_off, success_off, failure_off, states_off, plan_end, plan_at, plan_count, belief_count, plans_off, beliefs_of, entry_off, entry_length}
 use Rattle.accepted.specs.Rules.{situation_ok, actions_ok, branch_ok, state_ok, states_from, entries_in, entries, is_tree, states_ok, plan_ok, numbers, beliefs_ok}
 use Rattle.accepted.specs.Refusal.{contents_fit, packed_from, is_packed, plan_fits_at, plan_fits, plans_fit, refusal_of, most_bytes, Accepted}
-use Rattle.library.proofs.RowLaws.{items_at, items-all}
+use Rattle.library.proofs.RowLaws.{range_at, range_all}
 use Rattle.accepted.proofs.Shift.{fits_shift}
 
 -- ---- The largest plan
@@ -52,7 +53,7 @@ unfolding full_plan full_states chain full_situation four_of times
 full_plan-length = refl
 
 full_plan-fits : (rest : List ℕ) → plan_fits_at (full_plan ++ rest) 0 584 ≡ true
-unfolding full_plan full_states chain full_situation four_of times plan_fits_at u16_at items rows rows_end all situation_at situation_end actions_at actions_end states_at states_end maintenance_off success_off failure_off states_off plan_end plan_at situation_ok actions_ok branch_ok state_ok states_from entries_in entries is_tree states_ok plan_ok
+unfolding full_plan full_states chain full_situation four_of times plan_fits_at u16_at items rows rows_end situation_at situation_end actions_at actions_end states_at states_end maintenance_off success_off failure_off states_off plan_end plan_at situation_ok actions_ok branch_ok state_ok states_from entries_in entries is_tree states_ok plan_ok
 full_plan-fits rest = refl
 
 -- ---- The largest library
@@ -91,12 +92,12 @@ module _ (rest : List ℕ) where
   abbrev entry_right : ℕ → Bool
   entry_right i = eqb (entry_off (header ++ rest) i) (644 + 584 * i) && eqb (entry_length (header ++ rest) i) 584
 
-  entries_right : all entry_right (numbers 32 0) ≡ true
-  unfolding header entry_bytes u16_at all items
+  entries_right : list_all entry_right (numbers 32 0) ≡ true
+  unfolding header entry_bytes u16_at items
   entries_right = refl
 
   beliefs_right : beliefs_ok (beliefs_of (header ++ rest)) ≡ true
-  unfolding header entry_bytes belief_bytes times u16_at all any distinct items beliefs_ok beliefs_of plan_count belief_count is_ground same opposite
+  unfolding header entry_bytes belief_bytes times u16_at distinct items beliefs_ok beliefs_of plan_count belief_count is_ground same opposite
   beliefs_right = refl
 
 -- ---- Its length
@@ -153,7 +154,7 @@ entry_right_lem : (i : ℕ) → i < 32 → (entry_off largest i ≡ 644 + 584 * 
 unfolding largest
 entry_right_lem i h =
     let rest = times 32 full_plan in
-    let both = rw zero-add at (items_at (entry_right rest) (λ (k : ℕ). k) 32 0 i (entries_right rest) h) in
+    let both = rw zero-add at (range_at (entry_right rest) 32 0 i (entries_right rest) h) in
     let parts = and_parts (eqb (entry_off (header ++ rest) i) (644 + 584 * i)) _ both in
     (eqb-true _ _ parts.0, eqb-true _ _ parts.1)
 
@@ -171,7 +172,7 @@ beliefs_fit = beliefs_right (times 32 full_plan)
 
 plans_fit_lem : plans_fit largest ≡ true
 unfolding plans_fit
-plans_fit_lem = rw largest_plans (items-all (plan_fits largest) (λ (k : ℕ). k) 32 0 fits)
+plans_fit_lem = rw largest_plans (range_all (plan_fits largest) 32 0 fits)
   where
     fits : (i : ℕ) → 0 ≤ i → i < 0 + 32 → plan_fits largest i ≡ true
     fits i low high =
@@ -191,27 +192,26 @@ largest-accepted =
 abbrev is_byte : ℕ → Bool
 is_byte b = ltb b 256
 
-all_append : (xs ys : List ℕ) → all is_byte xs ≡ true → all is_byte ys ≡ true → all is_byte (xs ++ ys) ≡ true
-unfolding all
+all_append : (xs ys : List ℕ) → list_all is_byte xs ≡ true → list_all is_byte ys ≡ true → list_all is_byte (xs ++ ys) ≡ true
 all_append [] ys p q = q
 all_append (x ∷ xs) ys p q =
-    let parts = and_parts (is_byte x) (all is_byte xs) p in
-    and_both (is_byte x) (all is_byte (xs ++ ys)) parts.0 (all_append xs ys parts.1 q)
+    let parts = and_parts (is_byte x) (list_all is_byte xs) p in
+    and_both (is_byte x) (list_all is_byte (xs ++ ys)) parts.0 (all_append xs ys parts.1 q)
 
-times-bytes : (n : ℕ) (xs : List ℕ) → all is_byte xs ≡ true → all is_byte (times n xs) ≡ true
-unfolding all times
+times-bytes : (n : ℕ) (xs : List ℕ) → list_all is_byte xs ≡ true → list_all is_byte (times n xs) ≡ true
+unfolding times
 times-bytes zero xs p = refl
 times-bytes (suc n) xs p = all_append xs (times n xs) p (times-bytes n xs p)
 
-header-bytes : all is_byte header ≡ true
-unfolding header entry_bytes belief_bytes times all
+header-bytes : list_all is_byte header ≡ true
+unfolding header entry_bytes belief_bytes times
 header-bytes = refl
 
-plan-bytes : all is_byte full_plan ≡ true
-unfolding full_plan full_states chain full_situation four_of times all
+plan-bytes : list_all is_byte full_plan ≡ true
+unfolding full_plan full_states chain full_situation four_of times
 plan-bytes = refl
 
 -- each of them is a byte
-pub largest-bytes : all is_byte largest ≡ true
+pub largest-bytes : list_all is_byte largest ≡ true
 unfolding largest
 largest-bytes = all_append header (times 32 full_plan) header-bytes (times-bytes 32 full_plan plan-bytes)

@@ -7,7 +7,7 @@ use native.Mathlib.Omega.{arith}
 use borrow.Author.Tests.{leb-true, le-leb, eqb-true, eq-eqb}
 use lib.ListN.{length, drop, length-drop}
 use lib.Dec.{leb, eqb}
-use Rattle.lists.specs.Search.{all}
+use Rattle.std.specs.List.{list_all}
 use Rattle.lists.proofs.BoolLaws.{and_parts}
 use Rattle.lists.proofs.AndLaws.{and_swap, all_both}
 use Rattle.literal.specs.declared.Literal.{Literal}
@@ -42,13 +42,11 @@ literal_reads bytes =
     (λ at. (let x : at + 2 + 2 ≡ at + 4 = omega arith in let y : at + 2 + 2 + 2 ≡ at + 6 = omega arith in cc))
     (λ at. omega arith)
 
-all_pass : {A : Type 0} (xs : List A) → all (λ x. true) xs ≡ true
-unfolding all
+all_pass : {A : Type 0} (xs : List A) → list_all (λ x. true) xs ≡ true
 all_pass [] = refl
 all_pass (x ∷ xs) = all_pass xs
 
-all_same : {A : Type 0} (p q : A → Bool) → ((x : A) → p x ≡ q x) → (xs : List A) → all p xs ≡ all q xs
-unfolding all
+all_same : {A : Type 0} (p q : A → Bool) → ((x : A) → p x ≡ q x) → (xs : List A) → list_all p xs ≡ list_all q xs
 all_same p q h [] = refl
 all_same p q h (x ∷ xs) = rw (h x, all_same p q h xs)
 
@@ -56,13 +54,13 @@ situation_reads : (bytes : List ℕ) → Reads bytes situation (λ at. situation
 unfolding situation up_to_four situation_ok situation_at situation_end
 situation_reads bytes =
     renamed
-    (then_reads (up_to_reads bytes 4) _ (λ n at. all (λ row. at_most 4 row && all (λ l. true) row) (rows (literal_at bytes) bytes 8 n at)) (λ n at. rows (literal_at bytes) bytes 8 n at) (λ n at. rows_end bytes 8 n at) (λ n. rows-read (λ (l : Literal). true) 8 (literal_reads bytes) n))
+    (then_reads (up_to_reads bytes 4) _ (λ n at. list_all (λ row. at_most 4 row && list_all (λ l. true) row) (rows (literal_at bytes) bytes 8 n at)) (λ n at. rows (literal_at bytes) bytes 8 n at) (λ n at. rows_end bytes 8 n at) (λ n. rows-read (λ (l : Literal). true) 8 (literal_reads bytes) n))
     _ _ _
     (λ at. rw (length-rows (literal_at bytes) bytes 8 (u16_at bytes at) (at + 2)) (ap (λ t. leb (u16_at bytes at) 4 && t) (short (rows (literal_at bytes) bytes 8 (u16_at bytes at) (at + 2)))))
     (λ at. refl)
     (λ at. refl)
   where
-    short : (situation : Situation) → all (λ row. at_most 4 row && all (λ l. true) row) situation ≡ all (at_most 4) situation
+    short : (situation : Situation) → list_all (λ row. at_most 4 row && list_all (λ l. true) row) situation ≡ list_all (at_most 4) situation
     short = all_same _ _ (λ row. rw (all_pass row) (and_true (at_most 4 row)))
 
 action_reads : (bytes : List ℕ) → Reads bytes action (λ at. action_ok (action_at bytes at)) (action_at bytes) (λ at. at + 10)
@@ -90,7 +88,7 @@ abbrev branch_alone : Branch → Bool
 branch_alone b = leb b.kind 5 && literal_ok b.kind b.literal
 
 abbrev state_alone : List Branch → Bool
-state_alone branches = at_most 4 branches && all branch_alone branches
+state_alone branches = at_most 4 branches && list_all branch_alone branches
 
 branch_reads : (bytes : List ℕ) → Reads bytes branch (λ at. branch_alone (branch_at bytes at)) (branch_at bytes) (λ at. at + 12)
 unfolding branch
@@ -108,24 +106,24 @@ branch_reads bytes =
     (λ at. omega arith)
 
 -- a state's rules: what its branches are by themselves, and where they lead
-state-both : (count i : ℕ) (branches : List Branch) → state_ok count i branches ≡ (state_alone branches && all (leads count i) branches)
+state-both : (count i : ℕ) (branches : List Branch) → state_ok count i branches ≡ (state_alone branches && list_all (leads count i) branches)
 unfolding state_ok branch_ok
 state-both count i branches =
     let split = all_same (branch_ok count i) (λ b. branch_alone b && leads count i b) (λ b. and_assoc (leb b.kind 5) (literal_ok b.kind b.literal) (leads count i b)) branches ∙ all_both branch_alone (leads count i) branches in
-    ap (λ t. at_most 4 branches && t) split ∙ and_assoc (at_most 4 branches) (all branch_alone branches) (all (leads count i) branches)
+    ap (λ t. at_most 4 branches && t) split ∙ and_assoc (at_most 4 branches) (list_all branch_alone branches) (list_all (leads count i) branches)
 
-states-both : (count i : ℕ) (ss : List (List Branch)) → states_from count i ss ≡ (all state_alone ss && leads_up count i ss)
-unfolding states_from all leads_up
+states-both : (count i : ℕ) (ss : List (List Branch)) → states_from count i ss ≡ (list_all state_alone ss && leads_up count i ss)
+unfolding states_from leads_up
 states-both count i [] = refl
 states-both count i (branches ∷ rest) =
     rw (state-both count i branches, states-both count (i + 1) rest)
-    (and_swap (state_alone branches) (all (leads count i) branches) (all state_alone rest) (leads_up count (i + 1) rest))
+    (and_swap (state_alone branches) (list_all (leads count i) branches) (list_all state_alone rest) (leads_up count (i + 1) rest))
 
-states_test : (ss : List (List Branch)) → ((leb 1 (length ss) && at_most 16 ss) && (all state_alone ss && form_tree ss)) ≡ states_ok ss
+states_test : (ss : List (List Branch)) → ((leb 1 (length ss) && at_most 16 ss) && (list_all state_alone ss && form_tree ss)) ≡ states_ok ss
 unfolding states_ok form_tree
 states_test ss =
     rw (states-both (length ss) 0 ss)
-    (go (leb 1 (length ss)) (at_most 16 ss) (all state_alone ss) (leads_up (length ss) 0 ss) (is_tree ss))
+    (go (leb 1 (length ss)) (at_most 16 ss) (list_all state_alone ss) (leads_up (length ss) 0 ss) (is_tree ss))
   where
     go : (a b c d e : Bool) → ((a && b) && (c && (d && e))) ≡ (a && (b && ((c && d) && e)))
     go true true true d e = refl
@@ -138,13 +136,13 @@ unfolding states state states_at states_end
 states-read bytes =
     renamed
     (then_reads (number_reads bytes) _
-    (λ n at. (leb 1 n && leb n 16) && (all state_alone (rows (branch_at bytes) bytes 12 n at) && form_tree (rows (branch_at bytes) bytes 12 n at)))
+    (λ n at. (leb 1 n && leb n 16) && (list_all state_alone (rows (branch_at bytes) bytes 12 n at) && form_tree (rows (branch_at bytes) bytes 12 n at)))
     (λ n at. rows (branch_at bytes) bytes 12 n at)
     (λ n at. rows_end bytes 12 n at)
     (λ n. if_reads (leb 1 n && leb n 16)
     (then_reads (rows-read branch_alone 12 (branch_reads bytes) n) _ (λ ss at. form_tree ss) (λ ss at. ss) (λ ss at. at) (λ ss. given_reads bytes (form_tree ss) ss))))
     _ _ _
-    (λ at. ap (λ (n : ℕ). (leb 1 n && leb n 16) && (all state_alone (states_at bytes at) && form_tree (states_at bytes at))) (sym (length-rows (branch_at bytes) bytes 12 (u16_at bytes at) (at + 2))) ∙ states_test (states_at bytes at))
+    (λ at. ap (λ (n : ℕ). (leb 1 n && leb n 16) && (list_all state_alone (states_at bytes at) && form_tree (states_at bytes at))) (sym (length-rows (branch_at bytes) bytes 12 (u16_at bytes at) (at + 2))) ∙ states_test (states_at bytes at))
     (λ at. refl)
     (λ at. refl)
 

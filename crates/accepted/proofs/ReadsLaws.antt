@@ -9,7 +9,7 @@ use borrow.Author.Tests.{leb-true, leb-false, le-leb, lt-leb}
 use lib.ListN.{length, get_or, drop, length-drop}
 use lib.Seq.{drop-cons}
 use lib.Dec.{leb}
-use Rattle.lists.specs.Search.{all}
+use Rattle.std.specs.List.{list_all}
 use Rattle.library.specs.Bytes.{u16_at, items, rows, rows_end}
 use Rattle.accepted.specs.Rules.{at_most}
 use Rattle.accepted.specs.Parser.{Parsed, and_then, given, many, number, number_up_to, up_to_four}
@@ -128,26 +128,26 @@ module _ {A : Type 0} {bytes : List ℕ} {parser : List ℕ → Parsed A} {ok : 
       (λ v. renamed (then_reads rest _ (λ vs at. true) (λ vs at. v ∷ vs) (λ vs at. at) (λ vs. value_reads bytes (v ∷ vs))) oks (λ at. v ∷ list at) ends (λ at. and_true (oks at)) (λ at. refl) (λ at. refl))
 
 module _ {A : Type 0} {bytes : List ℕ} {parser : List ℕ → Parsed A} (test : A → Bool) {read : ℕ → A} (width : ℕ) (one : Reads bytes parser (λ at. test (read at)) read (λ at. at + width)) where
-  items-read : (n : ℕ) → Reads bytes (many parser n) (λ at. all test (items read width n at)) (items read width n) (λ at. at + width * n)
-  unfolding many all items
+  items-read : (n : ℕ) → Reads bytes (many parser n) (λ at. list_all test (items read width n at)) (items read width n) (λ at. at + width * n)
+  unfolding many items
   items-read zero = renamed (value_reads bytes []) (λ at. true) (items read width zero) (λ at. at + width * zero) (λ at. refl) (λ at. refl) (λ at. omega arith)
   items-read (suc n) =
-      renamed (more_reads one n (items-read n)) (λ at. all test (items read width (suc n) at)) (items read width (suc n)) (λ at. at + width * suc n) (λ at. refl) (λ at. refl) (λ at. simp mul-suc (omega arith))
+      renamed (more_reads one n (items-read n)) (λ at. list_all test (items read width (suc n) at)) (items read width (suc n)) (λ at. at + width * suc n) (λ at. refl) (λ at. refl) (λ at. simp mul-suc (omega arith))
 
   -- their number, and them
-  pub four_read : Reads bytes (up_to_four parser) (λ at. at_most 4 (items read width (u16_at bytes at) (at + 2)) && all test (items read width (u16_at bytes at) (at + 2)))
+  pub four_read : Reads bytes (up_to_four parser) (λ at. at_most 4 (items read width (u16_at bytes at) (at + 2)) && list_all test (items read width (u16_at bytes at) (at + 2)))
       (λ at. items read width (u16_at bytes at) (at + 2)) (λ at. at + 2 + width * u16_at bytes at)
   unfolding up_to_four
   four_read =
       renamed
-      (then_reads (up_to_reads bytes 4) _ (λ n at. all test (items read width n at)) (λ n at. items read width n at) (λ n at. at + width * n) (λ n. items-read n))
+      (then_reads (up_to_reads bytes 4) _ (λ n at. list_all test (items read width n at)) (λ n at. items read width n at) (λ n at. at + width * n) (λ n. items-read n))
       _ _ _ (λ at. rw (length-items read width (u16_at bytes at) (at + 2))) (λ at. refl) (λ at. refl)
 
   -- rows of them
-  pub rows-read : (n : ℕ) → Reads bytes (many (up_to_four parser) n) (λ at. all (λ row. at_most 4 row && all test row) (rows read bytes width n at)) (rows read bytes width n) (rows_end bytes width n)
-  unfolding many all rows rows_end
+  pub rows-read : (n : ℕ) → Reads bytes (many (up_to_four parser) n) (λ at. list_all (λ row. at_most 4 row && list_all test row) (rows read bytes width n at)) (rows read bytes width n) (rows_end bytes width n)
+  unfolding many rows rows_end
   rows-read zero = value_reads bytes []
   rows-read (suc n) =
       renamed (more_reads four_read n (rows-read n))
-      (λ at. all (λ row. at_most 4 row && all test row) (rows read bytes width (suc n) at)) (rows read bytes width (suc n)) (rows_end bytes width (suc n))
+      (λ at. list_all (λ row. at_most 4 row && list_all test row) (rows read bytes width (suc n) at)) (rows read bytes width (suc n)) (rows_end bytes width (suc n))
       (λ at. refl) (λ at. refl) (λ at. refl)

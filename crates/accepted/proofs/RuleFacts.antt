@@ -8,7 +8,7 @@ use native.Mathlib.Omega.{arith}
 use borrow.Author.Tests.{leb-true, ltb-true, eqb-true, eqb-false, eq-eqb, ne_eqb, not-true}
 use lib.ListN.{length, get_or}
 use lib.Dec.{leb, ltb, eqb}
-use Rattle.lists.specs.Search.{all}
+use Rattle.std.specs.List.{list_all}
 use Rattle.lists.proofs.BoolLaws.{and_parts}
 use Rattle.lists.proofs.AllLaws.{all_at}
 use Rattle.literal.specs.Literal.{negative}
@@ -17,14 +17,14 @@ use Rattle.library.specs.declared.Action.{Action}
 use Rattle.library.specs.declared.Branch.{Branch}
 use Rattle.library.specs.Plan.{Situation, Plan, no_action, no_branch}
 use Rattle.accepted.specs.Rules.{at_most, situation_ok, action_ok, actions_ok, division_ok, literal_ok, branch_ok, state_ok, states_from, entries, entered_once, is_tree, states_ok, trigger_ok, plan_ok}
-use Rattle.library.proofs.RowLaws.{items_at}
+use Rattle.library.proofs.RowLaws.{range_at}
 
 -- ---- Situations and actions
 
 module _ (situation : Situation) (ok : situation_ok situation ≡ true) where
-  pub parts-situation : (at_most 4 situation ≡ true) × (all (at_most 4) situation ≡ true)
+  pub parts-situation : (at_most 4 situation ≡ true) × (list_all (at_most 4) situation ≡ true)
   unfolding situation_ok
-  parts-situation = and_parts (at_most 4 situation) (all (at_most 4) situation) ok
+  parts-situation = and_parts (at_most 4 situation) (list_all (at_most 4) situation) ok
 
   pub few_alternatives : length situation ≤ 4
   few_alternatives = leb-true _ _ parts-situation.0
@@ -33,9 +33,9 @@ module _ (situation : Situation) (ok : situation_ok situation ≡ true) where
   few_literals i h = leb-true _ _ (all_at (at_most 4) situation i [] parts-situation.1 h)
 
 module _ (actions : List Action) (ok : actions_ok actions ≡ true) where
-  parts-actions : (at_most 4 actions ≡ true) × (all action_ok actions ≡ true)
+  parts-actions : (at_most 4 actions ≡ true) × (list_all action_ok actions ≡ true)
   unfolding actions_ok
-  parts-actions = and_parts (at_most 4 actions) (all action_ok actions) ok
+  parts-actions = and_parts (at_most 4 actions) (list_all action_ok actions) ok
 
   pub few-actions : length actions ≤ 4
   few-actions = leb-true _ _ parts-actions.0
@@ -77,14 +77,14 @@ module _ (count state : ℕ) (branch : Branch) (ok : branch_ok count state branc
   next_below = ltb-true _ _ tests.3
 
 module _ (count state : ℕ) (branches : List Branch) (ok : state_ok count state branches ≡ true) where
-  parts-state : (at_most 4 branches ≡ true) × (all (branch_ok count state) branches ≡ true)
+  parts-state : (at_most 4 branches ≡ true) × (list_all (branch_ok count state) branches ≡ true)
   unfolding state_ok
-  parts-state = and_parts (at_most 4 branches) (all (branch_ok count state) branches) ok
+  parts-state = and_parts (at_most 4 branches) (list_all (branch_ok count state) branches) ok
 
   pub few-branches : length branches ≤ 4
   few-branches = leb-true _ _ parts-state.0
 
-  pub branches_ok : all (branch_ok count state) branches ≡ true
+  pub branches_ok : list_all (branch_ok count state) branches ≡ true
   branches_ok = parts-state.1
 
 pub state_at : (count first : ℕ) (states : List (List Branch)) (state : ℕ) → states_from count first states ≡ true → state < length states
@@ -117,7 +117,7 @@ module _ (states : List (List Branch)) (ok : states_ok states ≡ true) where
   unfolding is_tree
   entered_once_lem state low high =
       let place : 1 + (state - 1) ≡ state = omega arith in
-      eqb-true _ _ (rw place at (items_at (entered_once states) (λ (k : ℕ). k) (length states - 1) 1 (state - 1) parts-states.3 (omega arith)))
+      eqb-true _ _ (rw place at (range_at (entered_once states) (length states - 1) 1 (state - 1) parts-states.3 (omega arith)))
 
   module _ (state : ℕ) (there : state < length states) where
     here : state_ok (length states) state (get_or states state []) ≡ true

@@ -1,61 +1,57 @@
 -- The steps of the loops that test the rules for a plan.
-use Prim.Native.Nat.{ℕ, zero, suc, ◌+◌, ◌*◌, ◌-◌, ◌<◌, ◌≤◌}
-use mathlib.Core.Path.{◌≡◌, refl, ap}
-use mathlib.Core.Bool.{Bool, true, false, cond}
+use Prim.Native.Nat.{ℕ, ◌+◌, ◌*◌, ◌-◌, ◌<◌, ◌≤◌}
+use mathlib.Core.Path.{◌≡◌, refl, ap, ap₂, sym}
+use mathlib.Core.Bool.{Bool, true, false}
 use mathlib.Core.List.{List}
-use native.Mathlib.Numerals.{sub-one}
-use native.Mathlib.Omega.{arith}
 use borrow.Author.Tests.{le-leb, lt-leb}
-use lib.Dec.{ltb}
-use Rattle.lists.specs.Search.{all}
+use Rattle.std.specs.Prelude.{Option, None, Some}
+use Rattle.std.specs.Bool.{then_some}
+use Rattle.std.specs.List.{list_all}
+use Rattle.std.proofs.lemmas.Option.{none-some, same_Some}
 use Rattle.library.specs.declared.Branch.{Branch}
 use Rattle.library.specs.Bytes.{u16_at, literal_at, action_at, branch_at, items, rows, rows_end}
 use Rattle.library.specs.Layout.{situation_at, situation_end, actions_at, actions_end, states_at, states_end}
-use Rattle.accepted.specs.Rules.{at_most, situation_ok, action_ok, actions_ok, literal_ok, branch_ok, state_ok, states_from, is_tree, states_ok}
-use Rattle.library.proofs.RowLaws.{length-items, length-rows}
+use Rattle.accepted.specs.Rules.{at_most, situation_ok, action_ok, actions_ok, branch_ok, state_ok, states_from, is_tree, states_ok}
+use Rattle.library.proofs.RowLaws.{length-items, length-rows, left_next, left_none, all_left, row_next, end_step}
 
--- ---- Rows of at most four items
+-- ---- Alternatives of at most four literals
 
-module _ {A : Type 0} (read : ℕ → A) (bytes : List ℕ) (width : ℕ) where
-  pub short_step : (n at count : ℕ) → count ≡ u16_at bytes at → 0 < n → count ≤ 4
-      → all (at_most 4) (rows read bytes width (n - 1) (at + 2 + width * count)) ≡ all (at_most 4) (rows read bytes width n at)
-  unfolding all rows
-  short_step zero at count e h few = absurd (omega arith)
-  short_step (suc n) at count e h few = simp (sub-one, ← e, length-items, le-leb count 4 few)
+-- where n alternatives end that have no more
+abbrev pub alternatives_end : List ℕ → ℕ → ℕ → Option ℕ
+alternatives_end bytes n at = then_some (list_all (at_most 4) (rows (literal_at bytes) bytes 8 n at)) (rows_end bytes 8 n at)
 
-  pub short_stop : (n at count : ℕ) → count ≡ u16_at bytes at → 0 < n → 4 < count → false ≡ all (at_most 4) (rows read bytes width n at)
-  unfolding all rows
-  short_stop zero at count e h many = absurd (omega arith)
-  short_stop (suc n) at count e h many = simp (← e, length-items, lt-leb count 4 many)
+module _ (bytes : List ℕ) (n i at : ℕ) where
+  module _ (count : ℕ) (e : count ≡ u16_at bytes at) (h : i < n) where
+    pub alternatives-step : count ≤ 4 → alternatives_end bytes (n - (i + 1)) (at + (2 + 8 * count)) ≡ alternatives_end bytes (n - i) at
+    unfolding rows rows_end
+    alternatives-step few =
+        let short : list_all (at_most 4) (rows (literal_at bytes) bytes 8 (n - (i + 1)) (at + (2 + 8 * count))) ≡ list_all (at_most 4) (rows (literal_at bytes) bytes 8 (n - i) at)
+        = simp (left_next n i h, row_next bytes 8 at count, ← e, length-items, le-leb count 4 few) in
+        ap₂ then_some short (end_step bytes 8 n i at count e h)
 
-  pub short_done : (n at : ℕ) → n ≤ 0 → true ≡ all (at_most 4) (rows read bytes width n at)
-  unfolding all rows
-  short_done zero at h = refl
-  short_done (suc n) at h = absurd (omega arith)
+    pub alternatives_stop : 4 < count → None ≡ alternatives_end bytes (n - i) at
+    unfolding rows rows_end
+    alternatives_stop many = simp (left_next n i h, ← e, length-items, lt-leb count 4 many)
 
--- ---- Ends, which are 0 where a part breaks its rules
+  pub alternatives_done : n ≤ i → Some at ≡ alternatives_end bytes (n - i) at
+  unfolding rows rows_end
+  alternatives_done h = rw (left_none n i h) refl
 
-pub went : (ok : Bool) (end r : ℕ) → r ≡ cond ok end 0 → (r ≡ 0 → ⊥) → (ok ≡ true) × (r ≡ end)
-went true end r e h = (refl, e)
-went false end r e h = absurd (h e)
+-- ---- Parts that end where they keep their rules
 
-pub stuck : (ok : Bool) (end r : ℕ) → 0 < end → r ≡ cond ok end 0 → r ≡ 0 → ok ≡ false
-stuck true end r h e z = absurd (omega arith)
-stuck false end r h e z = refl
+pub broken : (ok : Bool) (end : ℕ) → false ≡ ok → None ≡ then_some ok end
+broken ok end e = ap (λ (b : Bool). then_some b end) e
 
-pub end-behind : (bytes : List ℕ) (width n at : ℕ) → at ≤ rows_end bytes width n at
-unfolding rows_end
-end-behind bytes width zero at = omega arith
-end-behind bytes width (suc n) at =
-    let later = end-behind bytes width n (at + 2 + width * u16_at bytes at) in
-    omega arith
+pub kept : (ok : Bool) (end r : ℕ) → ok ≡ true → r ≡ end → Some r ≡ then_some ok end
+kept ok end r e p = rw (e, p) refl
 
--- a part that breaks its rules ends nowhere, and one that keeps them where it ends
-pub broken : (ok : Bool) (end : ℕ) → false ≡ ok → 0 ≡ cond ok end 0
-broken ok end e = ap (λ (b : Bool). cond b end 0) e
+pub went : (ok : Bool) (end r : ℕ) → Some r ≡ then_some ok end → (ok ≡ true) × (r ≡ end)
+went true end r e = (refl, same_Some r end e)
+went false end r e = absurd (none-some r (sym e))
 
-pub kept : (ok : Bool) (end r : ℕ) → ok ≡ true → r ≡ end → r ≡ cond ok end 0
-kept ok end r e p = rw e p
+pub stuck : (ok : Bool) (end : ℕ) → None ≡ then_some ok end → ok ≡ false
+stuck true end e = absurd (none-some end e)
+stuck false end e = refl
 
 -- ---- Situations and actions, by their number
 
@@ -64,7 +60,7 @@ module _ (bytes : List ℕ) (at count : ℕ) (e : count ≡ u16_at bytes at) whe
   unfolding situation_ok situation_at
   situation-many many = rw (← e, length-rows (literal_at bytes) bytes 8 count (at + 2), lt-leb count 4 many)
 
-  pub situation-few : count ≤ 4 → all (at_most 4) (rows (literal_at bytes) bytes 8 count (at + 2)) ≡ situation_ok (situation_at bytes at)
+  pub situation-few : count ≤ 4 → list_all (at_most 4) (rows (literal_at bytes) bytes 8 count (at + 2)) ≡ situation_ok (situation_at bytes at)
   unfolding situation_ok situation_at
   situation-few few = rw (← e, length-rows (literal_at bytes) bytes 8 count (at + 2), le-leb count 4 few)
 
@@ -72,7 +68,7 @@ module _ (bytes : List ℕ) (at count : ℕ) (e : count ≡ u16_at bytes at) whe
   unfolding actions_ok actions_at
   actions-many many = rw (← e, length-items (action_at bytes) 10 count (at + 2), lt-leb count 4 many)
 
-  pub actions-few : count ≤ 4 → all action_ok (items (action_at bytes) 10 count (at + 2)) ≡ actions_ok (actions_at bytes at)
+  pub actions-few : count ≤ 4 → list_all action_ok (items (action_at bytes) 10 count (at + 2)) ≡ actions_ok (actions_at bytes at)
   unfolding actions_ok actions_at
   actions-few few = rw (← e, length-items (action_at bytes) 10 count (at + 2), le-leb count 4 few)
 
@@ -81,38 +77,9 @@ module _ (bytes : List ℕ) (at : ℕ) where
   unfolding situation_end
   situation_end_lem count e = rw e
 
-  pub situation_somewhere : 0 < situation_end bytes at
-  unfolding situation_end
-  situation_somewhere = let later = end-behind bytes 8 (u16_at bytes at) (at + 2) in omega arith
-
   pub actions_end_lem : (count : ℕ) → count ≡ u16_at bytes at → at + 2 + 10 * count ≡ actions_end bytes at
   unfolding actions_end
   actions_end_lem count e = rw e
-
-  pub actions_somewhere : 0 < actions_end bytes at
-  unfolding actions_end
-  actions_somewhere = omega arith
-
--- ---- A branch, test by test
-
-module _ (count state : ℕ) (b : Branch) where
-  pub kind_fails : 5 < b.kind → false ≡ branch_ok count state b
-  unfolding branch_ok
-  kind_fails h = rw (lt-leb _ _ h)
-
-  module _ (kind : b.kind ≤ 5) where
-    pub literal_fails : literal_ok b.kind b.literal ≡ false → false ≡ branch_ok count state b
-    unfolding branch_ok
-    literal_fails h = rw (le-leb _ _ kind, h)
-
-    module _ (literal : literal_ok b.kind b.literal ≡ true) where
-      pub next_low : ltb state b.next ≡ false → false ≡ branch_ok count state b
-      unfolding branch_ok
-      next_low h = rw (le-leb _ _ kind, literal, h)
-
-      pub next_decides : ltb state b.next ≡ true → ltb b.next count ≡ branch_ok count state b
-      unfolding branch_ok
-      next_decides h = rw (le-leb _ _ kind, literal, h)
 
 -- ---- States
 
@@ -121,38 +88,44 @@ module _ (read : ℕ → Branch) (width count state n at : ℕ) where
   unfolding state_ok
   state-many h = rw (length-items read width n at, lt-leb n 4 h)
 
-  pub state-few : n ≤ 4 → (ok : Bool) → ok ≡ all (branch_ok count state) (items read width n at) → ok ≡ state_ok count state (items read width n at)
+  pub state-few : n ≤ 4 → (ok : Bool) → ok ≡ list_all (branch_ok count state) (items read width n at) → ok ≡ state_ok count state (items read width n at)
   unfolding state_ok
   state-few h ok e = rw (length-items read width n at, le-leb n 4 h) e
 
-module _ (count : ℕ) (read : ℕ → Branch) (bytes : List ℕ) (width : ℕ) where
-  pub states-step : (n state at branches : ℕ) → branches ≡ u16_at bytes at → 0 < n → (ok : Bool) → ok ≡ state_ok count state (items read width branches (at + 2)) → ok ≡ true
-      → states_from count (state + 1) (rows read bytes width (n - 1) (at + 2 + width * branches)) ≡ states_from count state (rows read bytes width n at)
-  unfolding states_from rows
-  states-step zero state at branches e h ok p t = absurd (omega arith)
-  states-step (suc n) state at branches e h ok p t = simp (sub-one, ← e, ← p, t)
+-- where the states from one on end that are such
+abbrev pub states_end_from : ℕ → List ℕ → ℕ → ℕ → Option ℕ
+states_end_from count bytes state at =
+    then_some (states_from count state (rows (branch_at bytes) bytes 12 (count - state) at)) (rows_end bytes 12 (count - state) at)
 
-  pub states_stop : (n state at branches : ℕ) → branches ≡ u16_at bytes at → 0 < n → (ok : Bool) → ok ≡ state_ok count state (items read width branches (at + 2)) → ok ≡ false
-      → false ≡ states_from count state (rows read bytes width n at)
-  unfolding states_from rows
-  states_stop zero state at branches e h ok p f = absurd (omega arith)
-  states_stop (suc n) state at branches e h ok p f = simp (← e, ← p, f)
+module _ (count : ℕ) (bytes : List ℕ) (state at : ℕ) where
+  module _ (branches : ℕ) (e : branches ≡ u16_at bytes at) (h : state < count) (ok : Bool) (p : ok ≡ state_ok count state (items (branch_at bytes) 12 branches (at + 2))) where
+    pub states-step : ok ≡ true → states_end_from count bytes (state + 1) (at + (2 + 12 * branches)) ≡ states_end_from count bytes state at
+    unfolding states_from rows rows_end
+    states-step t =
+        let read = branch_at bytes in
+        let formed : states_from count (state + 1) (rows read bytes 12 (count - (state + 1)) (at + (2 + 12 * branches))) ≡ states_from count state (rows read bytes 12 (count - state) at)
+        = simp (left_next count state h, row_next bytes 12 at branches, ← e, ← p, t) in
+        ap₂ then_some formed (end_step bytes 12 count state at branches e h)
 
-  pub states_done : (n state at : ℕ) → n ≤ 0 → true ≡ states_from count state (rows read bytes width n at)
-  unfolding states_from rows
-  states_done zero state at h = refl
-  states_done (suc n) state at h = absurd (omega arith)
+    pub states_stop : ok ≡ false → None ≡ states_end_from count bytes state at
+    unfolding states_from rows rows_end
+    states_stop f = simp (left_next count state h, ← e, ← p, f)
+
+  pub states_done : count ≤ state → Some at ≡ states_end_from count bytes state at
+  unfolding states_from rows rows_end
+  states_done h = rw (left_none count state h) refl
+
+-- from state 0 on it is all of them
+pub states_all : (count : ℕ) (bytes : List ℕ) (at : ℕ)
+    → states_end_from count bytes 0 at ≡ then_some (states_from count 0 (rows (branch_at bytes) bytes 12 count at)) (rows_end bytes 12 count at)
+states_all count bytes at =
+    ap (λ (n : ℕ). then_some (states_from count 0 (rows (branch_at bytes) bytes 12 n at)) (rows_end bytes 12 n at)) (all_left count)
 
 -- ---- A body, test by test
 
-module _ (bytes : List ℕ) (at : ℕ) where
-  pub states_end_lem : (count : ℕ) → count ≡ u16_at bytes at → rows_end bytes 12 count (at + 2) ≡ states_end bytes at
-  unfolding states_end
-  states_end_lem count e = rw e
-
-  pub states_somewhere : 0 < states_end bytes at
-  unfolding states_end
-  states_somewhere = let later = end-behind bytes 12 (u16_at bytes at) (at + 2) in omega arith
+pub states_end_lem : (bytes : List ℕ) (at count : ℕ) → count ≡ u16_at bytes at → rows_end bytes 12 count (at + 2) ≡ states_end bytes at
+unfolding states_end
+states_end_lem bytes at count e = rw e
 
 module _ (bytes : List ℕ) (at count : ℕ) (e : count ≡ u16_at bytes at) where
   pub states-none : count < 1 → false ≡ states_ok (states_at bytes at)

@@ -9,7 +9,7 @@ use native.Mathlib.Omega.{arith}
 use borrow.Author.Tests.{leb-true, eqb-true, eq-eqb, ne_eqb}
 use lib.ListN.{length}
 use lib.Dec.{eqb}
-use Rattle.lists.specs.Search.{all}
+use Rattle.std.specs.List.{list_all}
 use Rattle.lists.specs.Counts as Counts
 use Rattle.lists.proofs.BoolLaws.{and_parts}
 use Rattle.lists.proofs.CountLaws.{total_same, total-add, total_zero, total-length}
@@ -18,6 +18,7 @@ use Rattle.library.specs.Bytes.{u16_at, literal_at, branch_at, items, rows, rows
 use Rattle.library.specs.Layout.{situation_at, situation_end, actions_at, actions_end, states_at, states_end, maintenance_off, success_off, failure_off, states_off, plan_end, plan_at, plan_count, plans_off, entry_off, entry_length}
 use Rattle.accepted.specs.Rules.{at_most, numbers, situation_ok, actions_ok, branch_ok, state_ok, states_from, entries_in, entries, is_tree, states_ok, plan_ok}
 use Rattle.accepted.specs.Refusal.{packed_from, is_packed, plan_fits_at, plan_fits, plans_fit, Accepted, most_bytes}
+use Rattle.std.proofs.lemmas.List.FromFn.{length-range_with_len}
 use Rattle.library.proofs.RowLaws.{length-items, length-rows}
 use Rattle.library.proofs.PartLaws.{length-actions, length-states}
 use Rattle.accepted.proofs.RuleFacts.{few_alternatives, parts-situation, few-actions, next_above, next_below, branches_ok, some-state, few-states, parts-states, keeps_rules}
@@ -42,20 +43,17 @@ module _ (f : ℕ → ℕ) where
       total_same (λ k. (g k + h k) * f k) (λ k. g k * f k + h k * f k) ks (λ k. add-mul (g k) (h k) (f k))
       ∙ total-add (λ k. g k * f k) (λ k. h k * f k) ks
 
-  once_weighed : (times : ℕ → ℕ) (ks : List ℕ) → all (λ k. eqb (times k) 1) ks ≡ true → weighed f times ks ≡ Counts.total f ks
-  unfolding all
+  once_weighed : (times : ℕ → ℕ) (ks : List ℕ) → list_all (λ k. eqb (times k) 1) ks ≡ true → weighed f times ks ≡ Counts.total f ks
   once_weighed times [] e = refl
   once_weighed times (k ∷ ks) e =
-      let both = and_parts (eqb (times k) 1) (all (λ k. eqb (times k) 1) ks) e in
+      let both = and_parts (eqb (times k) 1) (list_all (λ k. eqb (times k) 1) ks) e in
       rw (eqb-true (times k) 1 both.0, one-mul, once_weighed times ks both.1)
 
   one_past : (x n first : ℕ) → x < first → weighed f (one x) (numbers n first) ≡ 0
-  unfolding items
   one_past x zero first h = refl
   one_past x (suc n) first h = rw (ne_eqb x first (λ (e : x ≡ first). omega arith), zero-mul, one_past x n (first + 1) (omega arith))
 
   one_in : (x n first : ℕ) → first ≤ x → x < first + n → weighed f (one x) (numbers n first) ≡ f x
-  unfolding items
   one_in x zero first low high = absurd (omega arith)
   one_in x (suc n) first low high =
       ⊎_elim
@@ -69,12 +67,12 @@ module _ (f : ℕ → ℕ) where
   abbrev pub at_nexts : List Branch → ℕ
   at_nexts branches = Counts.total (λ b. f b.next) branches
 
-  row-sum : (count state : ℕ) (branches : List Branch) → all (branch_ok count state) branches ≡ true
+  row-sum : (count state : ℕ) (branches : List Branch) → list_all (branch_ok count state) branches ≡ true
       → weighed f (λ k. entries_in k branches) (numbers (count - 1) 1) ≡ at_nexts branches
-  unfolding all entries_in
+  unfolding entries_in
   row-sum count state [] e = none-weighed (numbers (count - 1) 1)
   row-sum count state (b ∷ bs) e =
-      let both = and_parts (branch_ok count state b) (all (branch_ok count state) bs) e in
+      let both = and_parts (branch_ok count state b) (list_all (branch_ok count state) bs) e in
       let above = next_above count state b both.0 in
       let below = next_below count state b both.0 in
       let here = one_in b.next (count - 1) 1 (omega arith) (omega arith) in
@@ -110,17 +108,17 @@ tree_branches states ok =
     total_same (λ branches. length branches) (at_nexts (λ k. 1)) states (λ branches. total-length branches)
     ∙ tree_nexts (λ k. 1) states ok
     ∙ sym (total-length (numbers (length states - 1) 1))
-    ∙ length-items (λ k. k) 1 (length states - 1) 1
+    ∙ length-range_with_len 1 (length states - 1)
 
 -- ---- The parts of a plan
 
 module _ (bytes : List ℕ) where
-  alternatives_most : (n at : ℕ) → all (at_most 4) (rows (literal_at bytes) bytes 8 n at) ≡ true → rows_end bytes 8 n at ≤ at + 34 * n
-  unfolding all rows rows_end
+  alternatives_most : (n at : ℕ) → list_all (at_most 4) (rows (literal_at bytes) bytes 8 n at) ≡ true → rows_end bytes 8 n at ≤ at + 34 * n
+  unfolding rows rows_end
   alternatives_most zero at e = omega arith
   alternatives_most (suc n) at e =
       let row = items (literal_at bytes) 8 (u16_at bytes at) (at + 2) in
-      let both = and_parts (at_most 4 row) (all (at_most 4) (rows (literal_at bytes) bytes 8 n (at + 2 + 8 * u16_at bytes at))) e in
+      let both = and_parts (at_most 4 row) (list_all (at_most 4) (rows (literal_at bytes) bytes 8 n (at + 2 + 8 * u16_at bytes at))) e in
       let counted = length-items (literal_at bytes) 8 (u16_at bytes at) (at + 2) in
       let few = leb-true (length row) 4 both.0 in
       let rest = alternatives_most n (at + 2 + 8 * u16_at bytes at) both.1 in
@@ -170,12 +168,12 @@ module _ (bytes : List ℕ) where
       let ends = eqb-true (plan_end bytes off) (off + size) both.1 in
       omega arith
 
-  plans_most : (n i at : ℕ) → packed_from bytes n i at ≡ true → all (plan_fits bytes) (numbers n i) ≡ true → length bytes ≤ at + 584 * n
-  unfolding packed_from all items
+  plans_most : (n i at : ℕ) → packed_from bytes n i at ≡ true → list_all (plan_fits bytes) (numbers n i) ≡ true → length bytes ≤ at + 584 * n
+  unfolding packed_from
   plans_most zero i at packed fit = omega (arith, eqb-true at (length bytes) packed)
   plans_most (suc n) i at packed fit =
       let x = and_parts (eqb (entry_off bytes i) at) (packed_from bytes n (i + 1) (at + entry_length bytes i)) packed in
-      let y = and_parts (plan_fits bytes i) (all (plan_fits bytes) (numbers n (i + 1))) fit in
+      let y = and_parts (plan_fits bytes i) (list_all (plan_fits bytes) (numbers n (i + 1))) fit in
       let here = plan_most (entry_off bytes i) (entry_length bytes i) y.0 in
       let rest = plans_most n (i + 1) (at + entry_length bytes i) x.1 y.1 in
       omega arith

@@ -1,6 +1,6 @@
 -- How often the branches of a body lead to each state, counted in one pass: two stands for all above one.
 -- Private vocabulary: no public contract rests on this file.
-use Rattle.std.specs.Prelude.{ℕ, ◌+◌, Bool, cond, List, [], ◌∷◌, get_or, set, ltb, eqb}
+use Rattle.std.specs.Prelude.{ℕ, ◌+◌, cond, List, [], ◌∷◌, get_or, set, ltb}
 use Rattle.library.specs.declared.Branch.{Branch}
 
 -- one time more, up to two
@@ -20,6 +20,3 @@ counted_in counts (branch ∷ rest) = counted_in (entered counts branch.next) re
 unfoldable pub counted : List ℕ → List (List Branch) → List ℕ
 counted counts [] = counts
 counted counts (branches ∷ rest) = counted (counted_in counts branches) rest
-
-abbrev pub is_once : List ℕ → ℕ → Bool
-is_once counts state = eqb (get_or counts state 0) 1

@@ -1,7 +1,7 @@
 -- A plan's layout as a parser, in the page's own order (document 01, "Library", the list of a plan's parts).
 -- A parser takes bytes to a value and the bytes that are left, or says that they are off the layout.
 use Rattle.std.specs.Prelude.{ℕ, zero, suc, ◌+◌, ◌*◌, Bool, true, cond, ◌&&◌, List, [], ◌∷◌, length, leb, ltb}
-use Rattle.lists.specs.Search.{all}
+use Rattle.std.specs.List.{list_all}
 use Rattle.literal.specs.declared.Literal.{Literal}
 use Rattle.library.specs.declared.Action.{Action}
 use Rattle.library.specs.declared.Branch.{Branch}
@@ -88,7 +88,7 @@ leads count state branch = ltb state branch.next && ltb branch.next count
 -- so for every branch of the states from a number on
 unfoldable pub leads_up : ℕ → ℕ → List (List Branch) → Bool
 leads_up count state [] = true
-leads_up count state (branches ∷ rest) = all (leads count state) branches && leads_up count (state + 1) rest
+leads_up count state (branches ∷ rest) = list_all (leads count state) branches && leads_up count (state + 1) rest
 
 -- every next state is in 1..S - 1, and each state but 0 is the next state of exactly one branch, of a lower-numbered state
 unfoldable pub form_tree : List (List Branch) → Bool

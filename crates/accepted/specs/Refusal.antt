@@ -1,6 +1,6 @@
 -- What a plan author's library is refused for, and the part of a plan (document 01, "Who may cause which refusal" and "Library").
 use Rattle.std.specs.Prelude.{ℕ, zero, suc, ◌+◌, ◌≡◌, Bool, cond, ◌&&◌, List, [], length, take, drop, ltb, leb, eqb}
-use Rattle.lists.specs.Search.{all}
+use Rattle.std.specs.List.{list_all}
 use Rattle.library.specs.Layout.{plan_at, plan_end, plan_count, belief_count, plans_off, entry_off, entry_length, beliefs_of}
 use Rattle.accepted.specs.Rules.{most_plans, most_beliefs, numbers, beliefs_ok, plan_ok}
 
@@ -30,7 +30,7 @@ abbrev pub plan_fits : List ℕ → ℕ → Bool
 plan_fits bytes plan = plan_fits_at bytes (entry_off bytes plan) (entry_length bytes plan)
 
 unfoldable pub plans_fit : List ℕ → Bool
-plans_fit bytes = all (plan_fits bytes) (numbers (plan_count bytes) 0)
+plans_fit bytes = list_all (plan_fits bytes) (numbers (plan_count bytes) 0)
 
 -- ---- Refusals
 

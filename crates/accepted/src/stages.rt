@@ -1,6 +1,7 @@
 // The four stages of a library's refusal, each over the whole library.
 ghost use Rattle.std.specs.Prelude.{◌≡◌, ◌<◌, ◌^◌, ◌||◌};
-ghost use Rattle.lists.specs.Search.{all, any, distinct};
+ghost use Rattle.std.specs.List.{list_all, list_any};
+ghost use Rattle.lists.specs.Search.{distinct};
 ghost use Rattle.literal.specs.Literal.{is_ground, same, opposed};
 ghost use Rattle.library.specs.Bytes.{literal_at, items};
 ghost use Rattle.library.specs.Layout.{beliefs_of};
@@ -8,32 +9,25 @@ ghost use Rattle.accepted.specs.Refusal.{contents_fit, is_packed, plans_fit};
 ghost use Rattle.accepted.specs.Rules.{beliefs_ok};
 
 use super::rules::plan_fits;
+use belief::MOST_BELIEFS;
+use library::MOST_PLANS;
 use library::bytes::{LITERAL_BYTES, literal_at};
 use library::contents::{
     ENTRY_BYTES, HEADER_BYTES, belief_count, entry_length, entry_offset, plan_count,
 };
 use literal::{Literal, is_ground, is_same, opposite_of};
 
-const MOST_PLANS: usize = 32;
-
-const MOST_BELIEFS: usize = 64;
-
 // 1: the contents and the beliefs are there.
+#[tactic(auto, unfolding(crate::specs::Refusal::contents_fit, library::specs::Layout::plans_off))]
 pub(crate) fn contents_fit(library: &[u8]) -> bool
     ensures { result ≡ contents_fit library.now }
 {
-    if library.len() < HEADER_BYTES {
-        return false;
-    }
-    let plans = plan_count(library) as usize;
-    if MOST_PLANS < plans {
-        return false;
-    }
+    let plans = plan_count(library);
     let beliefs = belief_count(library) as usize;
-    if MOST_BELIEFS < beliefs {
-        return false;
-    }
-    HEADER_BYTES + ENTRY_BYTES * plans + LITERAL_BYTES * beliefs <= library.len()
+    HEADER_BYTES <= library.len()
+        && plans <= MOST_PLANS
+        && beliefs <= MOST_BELIEFS
+        && HEADER_BYTES + ENTRY_BYTES * plans as usize + LITERAL_BYTES * beliefs <= library.len()
 }
 
 // 2: the plans are packed in the entries' order, up to the last byte.
@@ -43,16 +37,12 @@ pub(crate) fn is_packed(library: &[u8]) -> bool
     let plans = plan_count(library) as usize;
     let beliefs = belief_count(library) as usize;
     let mut at = HEADER_BYTES + ENTRY_BYTES * plans + LITERAL_BYTES * beliefs;
-    let mut plan: usize = 0;
-    let mut left = plans;
-    while 0 < left {
+    for plan in 0..plans {
         let off = entry_offset(library, plan) as usize;
         if off != at {
             return false;
         }
-        at = at + entry_length(library, plan) as usize;
-        plan += 1;
-        left -= 1;
+        at += entry_length(library, plan) as usize;
     }
     at == library.len()
 }
@@ -60,41 +50,21 @@ pub(crate) fn is_packed(library: &[u8]) -> bool
 // Whether n literals are ground.
 fn all_ground(bytes: &[u8], from: usize, n: usize) -> bool
     requires { (from < 2 ^ 20) × (n < 2 ^ 16) }
-    ensures { result ≡ all is_ground (items (literal_at bytes.now) 8 n from) }
+    ensures { result ≡ list_all is_ground (items (literal_at bytes.now) 8 n from) }
 {
-    let mut at = from;
-    let mut left = n;
-    while 0 < left {
-        let literal = literal_at(bytes, at);
-        if !is_ground(literal) {
-            return false;
-        }
-        at += LITERAL_BYTES;
-        left -= 1;
-    }
-    true
+    (0..n).all(|i| is_ground(literal_at(bytes, from + LITERAL_BYTES * i)))
 }
 
 // Whether some of n literals is the same as a given one, or its opposite.
 fn any_alike(bytes: &[u8], literal: Literal, from: usize, n: usize) -> bool
     requires { (from < 2 ^ 30) × (n < 2 ^ 16) }
-    ensures { result ≡ any (λ m. same literal m || opposed literal m) (items (literal_at bytes.now) 8 n from) }
+    ensures { result ≡ list_any (λ m. same literal m || opposed literal m) (items (literal_at bytes.now) 8 n from) }
 {
     let opposite = opposite_of(literal);
-    let mut at = from;
-    let mut left = n;
-    while 0 < left {
-        let other = literal_at(bytes, at);
-        if is_same(literal, other) {
-            return true;
-        }
-        if is_same(opposite, other) {
-            return true;
-        }
-        at += LITERAL_BYTES;
-        left -= 1;
-    }
-    false
+    (0..n).any(|i| {
+        let other = literal_at(bytes, from + LITERAL_BYTES * i);
+        is_same(literal, other) || is_same(opposite, other)
+    })
 }
 
 // Whether of n literals none is the same as a later one, and none its opposite.
@@ -102,17 +72,11 @@ fn all_apart(bytes: &[u8], from: usize, n: usize) -> bool
     requires { (from < 2 ^ 20) × (n < 2 ^ 16) }
     ensures { result ≡ distinct (λ l m. same l m || opposed l m) (items (literal_at bytes.now) 8 n from) }
 {
-    let mut at = from;
-    let mut left = n;
-    while 0 < left {
+    (0..n).all(|i| {
+        let at = from + LITERAL_BYTES * i;
         let literal = literal_at(bytes, at);
-        at += LITERAL_BYTES;
-        left -= 1;
-        if any_alike(bytes, literal, at, left) {
-            return false;
-        }
-    }
-    true
+        !any_alike(bytes, literal, at + LITERAL_BYTES, n - 1 - i)
+    })
 }
 
 // 3: the initial beliefs are ground and all different, with no opposites.
@@ -122,24 +86,13 @@ pub(crate) fn beliefs_ok(library: &[u8]) -> bool
     let plans = plan_count(library) as usize;
     let from = HEADER_BYTES + ENTRY_BYTES * plans;
     let beliefs = belief_count(library) as usize;
-    if !all_ground(library, from, beliefs) {
-        return false;
-    }
-    all_apart(library, from, beliefs)
+    all_ground(library, from, beliefs) && all_apart(library, from, beliefs)
 }
 
 // 4: every plan keeps the rules, and ends where its entry says.
 pub(crate) fn plans_fit(library: &[u8]) -> bool
     ensures { result ≡ plans_fit library.now }
 {
-    let mut plan: usize = 0;
-    let mut left = plan_count(library) as usize;
-    while 0 < left {
-        if !plan_fits(library, plan) {
-            return false;
-        }
-        plan += 1;
-        left -= 1;
-    }
-    true
+    let plans = plan_count(library) as usize;
+    (0..plans).all(|plan| plan_fits(library, plan))
 }

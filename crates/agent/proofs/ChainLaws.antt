@@ -6,6 +6,7 @@ use mathlib.Core.List.{List, map-map}
 use lib.ListN.{length, take}
 use Rattle.lists.specs.Counts.{Every}
 use Rattle.lists.proofs.BoolLaws.{by_cases}
+use Rattle.std.specs.Prelude.{Ok}
 use Rattle.library.specs.Layout.{library_of, beliefs_of}
 use Rattle.accepted.specs.Refusal.{refusal_of}
 use Rattle.model.specs.State.{AgentState, Call, Reply}
@@ -21,7 +22,6 @@ use Rattle.state.specs.View.{view_state, counts_fit}
 use Rattle.formed.specs.Formed.{WellFormedState}
 use Rattle.formed.proofs.WellFormedLaws.{test_within, test_parts, test_passes}
 use Rattle.load.specs.declared.Agent.{Agent}
-use Rattle.load.specs.declared.Loaded.{Loaded}
 use Rattle.load.specs.Load.{bytes_of, Loads, is_well_formed_agent}
 use Rattle.agent.specs.Calls.{view_replied, Calls}
 use Rattle.agent.specs.declared.Replied.{Replied}
@@ -81,30 +81,35 @@ module _ (bytes : List ℕ) (accepted : refusal_of bytes ≡ 0) where
   chain-end start = refl
   chain-end (then link c rest) = chain-end rest
 
-  -- the agent that load gives holds the library, in the loaded state
-  pub loaded_held : (l : Loaded) → Loads bytes l → Held bytes l.agent
-  loaded_held l h = record {
-    size = subst⁻¹ (λ (n : ℕ). l.agent.length ≤ n) h.places h.within;
-    bytes_are = h.copy accepted;
-    fit = h.fit;
-    formed = subst⁻¹ (λ (s : AgentState). is_well_formed (library_of bytes) s ≡ true) (h.state accepted) (loaded_well_formed bytes accepted);
+-- ---- From an agent that load gives
+
+module _ (bytes : List ℕ) (l : Agent) (loads : Loads bytes (Ok l)) where
+  -- it holds the library, in the loaded state
+  pub loaded_held : Held bytes l
+  loaded_held = record {
+    size = subst⁻¹ (λ (n : ℕ). l.length ≤ n) loads.places loads.within;
+    bytes_are = loads.copy;
+    fit = loads.fit;
+    formed = subst⁻¹ (λ (s : AgentState). is_well_formed (library_of bytes) s ≡ true) loads.state (loaded_well_formed bytes loads.accepted);
   }
 
-  module _ (l : Loaded) (loads : Loads bytes l) {b : Agent} {links : List Link} (c : Chain l.agent links b) where
+  module _ {b : Agent} {links : List Link} (c : Chain l links b) where
     from_loaded_lem : IsChain (library_of bytes) (loaded (library_of bytes)) (entries_of links)
-    from_loaded_lem = subst (λ (s : AgentState). IsChain (library_of bytes) s (entries_of links)) (loads.state accepted) (chain_is (loaded_held l loads) c)
+    from_loaded_lem = subst (λ (s : AgentState). IsChain (library_of bytes) s (entries_of links)) loads.state (chain_is bytes loads.accepted loaded_held c)
 
     at_end_lem : final_of (loaded (library_of bytes)) (entries_of links) ≡ view_state b.state
-    at_end_lem = ap (λ (s : AgentState). final_of s (entries_of links)) (sym (loads.state accepted)) ∙ chain-end c
+    at_end_lem = ap (λ (s : AgentState). final_of s (entries_of links)) (sym loads.state) ∙ chain-end bytes loads.accepted c
 
-    -- demand 3, of every chain of calls and answers from an agent that load gives, whatever the library and the answers of the devices
+    -- demand 3, of every chain of calls and answers, whatever the library and the answers of the devices
     pub demand_3 : Demand3 (beliefs_of bytes) (entries_of links) (view_state b.state)
     unfolding library_of
-    demand_3 = subst (Demand3 (beliefs_of bytes) (entries_of links)) at_end_lem (chain_demand_3 (library_of bytes) (acceptable bytes accepted) (entries_of links) from_loaded_lem)
+    demand_3 =
+        subst (Demand3 (beliefs_of bytes) (entries_of links)) at_end_lem
+        (chain_demand_3 (library_of bytes) (acceptable bytes loads.accepted) (entries_of links) from_loaded_lem)
 
     -- 10 is never answered
     pub never_ten : Every is_not_ten (entries_of links)
-    never_ten = chain_never_ten (library_of bytes) (acceptable bytes accepted) (entries_of links) from_loaded_lem
+    never_ten = chain_never_ten (library_of bytes) (acceptable bytes loads.accepted) (entries_of links) from_loaded_lem
 
     -- the entries are the model's run of the calls
     entries-run : run (library_of bytes) (loaded (library_of bytes)) (calls_of links) ≡ entries_of links
@@ -112,12 +117,14 @@ module _ (bytes : List ℕ) (accepted : refusal_of bytes ≡ 0) where
         ap (run (library_of bytes) (loaded (library_of bytes))) (sym (map-map (λ (e : Entry). e.call) entry_of links))
         ∙ chain_run (library_of bytes) (loaded (library_of bytes)) (entries_of links) from_loaded_lem
 
-  -- results and states are the same whatever the places past the counts hold: they depend on the library and the calls alone
-  pub same_entries : (l m : Loaded) → Loads bytes l → Loads bytes m
-      → {a b : Agent} {links others : List Link} → Chain l.agent links a → Chain m.agent others b
-      → calls_of links ≡ calls_of others → entries_of links ≡ entries_of others
-  same_entries l m x y c d e =
-      sym (entries-run l x c) ∙ ap (run (library_of bytes) (loaded (library_of bytes))) e ∙ entries-run m y d
+-- results and states are the same whatever the places past the counts hold: they depend on the library and the calls alone
+pub same_entries : (bytes : List ℕ) (l m : Agent) → Loads bytes (Ok l) → Loads bytes (Ok m)
+    → {a b : Agent} {links others : List Link} → Chain l links a → Chain m others b
+    → calls_of links ≡ calls_of others → entries_of links ≡ entries_of others
+same_entries bytes l m x y c d e =
+    sym (entries-run bytes l x c) ∙ ap (run (library_of bytes) (loaded (library_of bytes))) e ∙ entries-run bytes m y d
+
+-- ---- The test of an agent
 
 -- a call keeps an agent well formed, and one that is not as it is
 pub call_test : (a : Agent) (link : Link) → Calls a link.call link.given → is_well_formed_agent link.given.agent ≡ is_well_formed_agent a

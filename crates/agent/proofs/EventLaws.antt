@@ -3,11 +3,15 @@ use Prim.Native.Nat.{ℕ, ◌+◌, ◌-◌, ◌<◌, ◌≤◌}
 use native.Mathlib.Omega.{arith}
 use mathlib.Core.Path.{◌≡◌, refl, ap, sym, subst, subst⁻¹, ◌∙◌}
 use mathlib.Core.Bool.{Bool, true, false, cond}
-use mathlib.Core.List.{List, [], ◌∷◌, ◌++◌}
-use lib.ListN.{length, set, get_or}
+use mathlib.Core.List.{List, [], ◌∷◌, ◌++◌, map}
+use lib.ListN.{length, set, get_or, length-map, length-take}
+use lib.Seq.{get_or-take}
 use lib.Dec.{ltb}
 use borrow.Author.Tests.{lt-ltb}
+use Rattle.std.specs.Prelude.{Option, Some}
+use Rattle.std.specs.List as std
 use Rattle.lists.specs.Search.{position}
+use Rattle.lists.proofs.PositionLaws.{position_there, position_some}
 use Rattle.lists.specs.Gap.{remove_at, close_gap}
 use Rattle.lists.specs.Places.{first, change_at}
 use Rattle.lists.proofs.PlaceLaws.{change_there}
@@ -42,23 +46,33 @@ use Rattle.steps.specs.declared.step.Step.{Step}
 use Rattle.steps.specs.View.{Sized, stack_at}
 use Rattle.steps.specs.Gives.{Replies}
 use Rattle.steps.specs.Step.{opened_stack, plain_step, applied}
-use Rattle.agent.specs.TakeUp.{poster_in, HasPoster, opened_step, Pushes, Drops, unmet_step, Has, Makes, Closes}
+use Rattle.agent.specs.TakeUp.{standing, poster_in, HasPoster, opened_step, Pushes, Drops, unmet_step, Has, Makes, Closes}
 use Rattle.steps.proofs.CountLaws.{counts-dequeue, counts_open, counts-put}
 use Rattle.steps.proofs.StepLaws.{step_replies, sized_dequeue}
 
 -- ---- From the parts of a state to the state
 
 -- what is said of the parts is said of the state that has them
-of_state : (P : Beliefs → ℕ → List Stack → ℕ → Type 0) (s : State) {beliefs : Beliefs} {made : ℕ} {stacks : List Stack} {stacked : ℕ}
-    → Has s beliefs made stacks stacked → P beliefs made stacks stacked → P s.beliefs s.made s.stacks s.stacked
+of_state : (P : Beliefs → ℕ → List Stack → Type 0) (s : State) {beliefs : Beliefs} {made : ℕ} {stacks : List Stack}
+    → Has s beliefs made stacks → P beliefs made stacks → P s.beliefs s.made (standing s)
 of_state P s h =
     let b = h.beliefs_are in
     let m = h.made_is in
     let ks = h.stacks_are in
-    let n = h.stacked_is in
-    subst⁻¹ (λ (Q : Type 0). Q) (λ i. P (b i) (m i) (ks i) (n i))
+    subst⁻¹ (λ (Q : Type 0). Q) (λ i. P (b i) (m i) (ks i))
+
+-- how many stacks there are
+length_standing : (s : State) → Sized s → length (standing s) ≡ stacked_of s
+length_standing s sized = length-take (stacked_of s) s.stacks ∙ omega (arith, sized.stacks)
 
 -- ---- The stack at the place that a search found
+
+module _ (stacks : List Stack) (goal : Origin) (found : Option ℕ) (f : found ≡ std.position (is_poster goal) (map view_stack stacks)) where
+  pub poster_there : HasPoster stacks goal → found ≡ Some (poster_in stacks goal)
+  poster_there h = f ∙ position_there (is_poster goal) (map view_stack stacks) (omega (arith, h.there, length-map stacks view_stack))
+
+  pub poster_place_is : (place : ℕ) → found ≡ Some place → place ≡ poster_in stacks goal
+  poster_place_is place e = (position_some (is_poster goal) (map view_stack stacks) place (sym e ∙ f)).0
 
 module _ (s : State) (place : ℕ) (d : Stack) (low : place < stacked_of s) where
   -- another stack there is the model's change of the first that passes
@@ -77,11 +91,16 @@ push_depth stack x r h e =
     let p : r.depth ≡ stack.depth + 1 = ap (λ (k : Stack). k.depth) e ∙ rw (lt-ltb stack.depth 7 h) in
     omega arith
 
--- the stack at the place that the search found has room
-poster-room : (s : State) (goal : Origin) (poster : ℕ) (stack : Stack) → HasPoster s.stacks s.stacked goal → poster ≡ poster_in s.stacks s.stacked goal
-    → stack ≡ stack_at s poster → stack.depth < 7
-poster-room s goal poster stack h found there =
-    subst⁻¹ (λ (k : Stack). k.depth < 7) there (subst⁻¹ (λ (i : ℕ). (stack_at s i).depth < 7) found h.room)
+-- the stack at the place that the search found
+module _ (s : State) (sized : Sized s) (goal : Origin) (poster : ℕ) (h : HasPoster (standing s) goal) (found : poster ≡ poster_in (standing s) goal) where
+  poster_low : poster < stacked_of s
+  poster_low = omega (arith, h.there, found, length_standing s sized)
+
+  poster_is : get_or (standing s) poster no_stack ≡ stack_at s poster
+  poster_is = get_or-take (stacked_of s) s.stacks poster no_stack poster_low
+
+  poster-room : (stack_at s poster).depth < 7
+  poster-room = subst (λ (k : Stack). k.depth < 7) poster_is (subst⁻¹ (λ (i : ℕ). (get_or (standing s) i no_stack).depth < 7) found h.room)
 
 -- without an event the rest of the state is as it was
 dequeue_frame : (s : State) (place : ℕ) → dequeue s place ≡ with_queue s (dequeue s place).queue (dequeue s place).queued
@@ -100,15 +119,15 @@ module _ (s : State) (sized : Sized s) (fits : counts_fit s ≡ true) where
   -- ---- Made
 
   made_external : (chosen : Chosen) (external : ℕ) → s.stacked < 8
-      → Replies (make (view_state s) chosen (External external)) (applied s (opened_step s.beliefs s.made chosen external))
+      → Replies (make (view_state s) chosen (External external)) (applied s (opened_step s.beliefs (new_instance s.made chosen) external))
   unfolding make down
   made_external chosen external room =
       let stack = opened_stack external (new_instance s.made chosen) in
-      step_replies s (opened_step s.beliefs s.made chosen external) (restacked (view_state s) (view_stacks s ++ (view_stack stack ∷ [])))
+      step_replies s (opened_step s.beliefs (new_instance s.made chosen) external) (restacked (view_state s) (view_stacks s ++ (view_stack stack ∷ [])))
       (open_state s stack sized.stacks room) (counts_open s fits sized.stacks stack (omega arith)) few
 
-  made_goal : (chosen : Chosen) (i state branch poster : ℕ) (next : Stack) → HasPoster s.stacks s.stacked (Goal i state branch)
-      → poster ≡ poster_in s.stacks s.stacked (Goal i state branch)
+  made_goal : (chosen : Chosen) (i state branch poster : ℕ) (next : Stack) → HasPoster (standing s) (Goal i state branch)
+      → poster ≡ poster_in (standing s) (Goal i state branch)
       → view_stack next ≡ pushed (new_instance s.made chosen) (view_stack (stack_at s poster)) → next.depth ≤ 7
       → Replies (make (view_state s) chosen (Goal i state branch))
       (applied s (plain_step s.beliefs (MadeGoal (s.made + 1) chosen.plan i) queue.Keep (stacks.Replace poster) next (numbering.Made (s.made + 1))))
@@ -116,7 +135,7 @@ module _ (s : State) (sized : Sized s) (fits : counts_fit s ≡ true) where
   made_goal chosen i state branch poster next h found top deep =
       let x = new_instance s.made chosen in
       let test = is_poster (Goal i state branch) in
-      let low : poster < stacked_of s = omega (arith, h.there, found) in
+      let low = poster_low s sized (Goal i state branch) poster h found in
       step_replies s (plain_step s.beliefs (MadeGoal (s.made + 1) chosen.plan i) queue.Keep (stacks.Replace poster) next (numbering.Made (s.made + 1)))
       (restacked (view_state s) (change_at (pushed x) (view_stacks s) (first test (view_stacks s))))
       (put_frame s poster next ∙ ap (restacked (view_state s)) (put_change s poster no_stack low test (pushed x) next sized.stacks found top))
@@ -135,14 +154,14 @@ module _ (s : State) (sized : Sized s) (fits : counts_fit s ≡ true) where
       (step_replies s t v (dequeue-state s place sized.queue) (counts-dequeue s fits place) few)
 
   unmet : (place : ℕ) (event : Event) (failures i state branch poster : ℕ) (stack : Stack) → failures ≡ size_of event.failed
-      → HasPoster s.stacks s.stacked (Goal i state branch) → poster ≡ poster_in s.stacks s.stacked (Goal i state branch) → stack ≡ stack_at s poster
+      → HasPoster (standing s) (Goal i state branch) → poster ≡ poster_in (standing s) (Goal i state branch) → stack ≡ stack_at s poster
       → Replies (close (view_state s) (record { place = place; it = event }) (Goal i state branch))
       (applied s (unmet_step s.beliefs place (Unmet i state branch failures) poster stack))
   unfolding close replay
   unmet place event failures i state branch poster stack size h found there =
       let test = is_poster (Goal i state branch) in
-      let low : poster < stacked_of s = omega (arith, h.there, found) in
-      let room : stack.depth < 7 = poster-room s (Goal i state branch) poster stack h found there in
+      let low = poster_low s sized (Goal i state branch) poster h found in
+      let room : stack.depth < 7 = subst⁻¹ (λ (k : Stack). k.depth < 7) there (poster-room s sized (Goal i state branch) poster h found) in
       let next = replace_top stack (awake stack.top) in
       let u = dequeue s place in
       let w = with_queue s u.queue u.queued in
@@ -163,36 +182,39 @@ module _ (s : State) (sized : Sized s) (fits : counts_fit s ≡ true) where
 
 -- ---- The same, from the parts that the step was decided from
 
-module _ (beliefs : Beliefs) (stacks : List Stack) (stacked : ℕ) (t : Step) where
-  pub made_by_opening : (made : ℕ) (chosen : Chosen) (external : ℕ) → t ≡ opened_step beliefs made chosen external → stacked < 8
-      → Makes beliefs made stacks stacked (λ s. make s chosen (External external)) t
+module _ (beliefs : Beliefs) (stacks : List Stack) (t : Step) where
+  pub made_by_opening : (made : ℕ) (chosen : Chosen) (external : ℕ) → t ≡ opened_step beliefs (new_instance made chosen) external → length stacks < 8
+      → Makes beliefs made stacks (λ s. make s chosen (External external)) t
   made_by_opening made chosen external e room s h =
-      let p = of_state (λ b m ks n. (n < 8) × (t ≡ opened_step b m chosen external)) s h (room, e) in
-      subst⁻¹ (λ (u : Step). Replies (make (view_state s) chosen (External external)) (applied s u)) p.1 (made_external s h.sized h.fit chosen external p.0)
+      let p = of_state (λ b m ks. (length ks < 8) × (t ≡ opened_step b (new_instance m chosen) external)) s h (room, e) in
+      let few : s.stacked < 8 = omega (arith, p.0, length_standing s h.sized) in
+      subst⁻¹ (λ (u : Step). Replies (make (view_state s) chosen (External external)) (applied s u)) p.1 (made_external s h.sized h.fit chosen external few)
 
   pub closed_by_dropping : (place : ℕ) (event : Event) (external failures : ℕ) → failures ≡ size_of event.failed → Drops beliefs place external failures t
-      → Closes beliefs stacks stacked (λ s. close s (record { place = place; it = event }) (External external)) t
+      → Closes beliefs stacks (λ s. close s (record { place = place; it = event }) (External external)) t
   closed_by_dropping place event external failures size e s h =
-      let p = of_state (λ b m ks n. Drops b place external failures t) s h e in
+      let p = of_state (λ b m ks. Drops b place external failures t) s h e in
       subst⁻¹ (λ (u : Step). Replies (close (view_state s) (record { place = place; it = event }) (External external)) (applied s u)) p
       (dropped s h.sized h.fit place event external failures t.stack size)
 
-  module _ (i state branch poster : ℕ) (has : HasPoster stacks stacked (Goal i state branch)) (found : poster ≡ poster_in stacks stacked (Goal i state branch)) where
+  module _ (i state branch poster : ℕ) (has : HasPoster stacks (Goal i state branch)) (found : poster ≡ poster_in stacks (Goal i state branch)) where
     -- the poster's stack in a state
-    abbrev Posted : List Stack → ℕ → Type 0
-    Posted ks n = HasPoster ks n (Goal i state branch) × (poster ≡ poster_in ks n (Goal i state branch))
+    abbrev Posted : List Stack → Type 0
+    Posted ks = HasPoster ks (Goal i state branch) × (poster ≡ poster_in ks (Goal i state branch))
 
-    pub made_by_pushing : (made : ℕ) (chosen : Chosen) → Pushes beliefs made chosen i poster (get_or stacks poster no_stack) t
-        → Makes beliefs made stacks stacked (λ s. make s chosen (Goal i state branch)) t
+    pub made_by_pushing : (made : ℕ) (chosen : Chosen) → Pushes beliefs (new_instance made chosen) i poster (get_or stacks poster no_stack) t
+        → Makes beliefs made stacks (λ s. make s chosen (Goal i state branch)) t
     made_by_pushing made chosen e s h =
-        let p = of_state (λ b m ks n. Posted ks n × Pushes b m chosen i poster (get_or ks poster no_stack) t) s h ((has, found), e) in
-        subst⁻¹ (λ (u : Step). Replies (make (view_state s) chosen (Goal i state branch)) (applied s u)) p.1.step
-        (made_goal s h.sized h.fit chosen i state branch poster t.stack p.0.0 p.0.1 p.1.higher p.1.depth)
+        let p = of_state (λ b m ks. Posted ks × Pushes b (new_instance m chosen) i poster (get_or ks poster no_stack) t) s h ((has, found), e) in
+        let pushes = subst (λ (k : Stack). Pushes s.beliefs (new_instance s.made chosen) i poster k t) (poster_is s h.sized (Goal i state branch) poster p.0.0 p.0.1) p.1 in
+        subst⁻¹ (λ (u : Step). Replies (make (view_state s) chosen (Goal i state branch)) (applied s u)) pushes.step
+        (made_goal s h.sized h.fit chosen i state branch poster t.stack p.0.0 p.0.1 pushes.higher pushes.depth)
 
     pub closed_by_waking : (place : ℕ) (event : Event) (failures : ℕ) → failures ≡ size_of event.failed
         → t ≡ unmet_step beliefs place (Unmet i state branch failures) poster (get_or stacks poster no_stack)
-        → Closes beliefs stacks stacked (λ s. close s (record { place = place; it = event }) (Goal i state branch)) t
+        → Closes beliefs stacks (λ s. close s (record { place = place; it = event }) (Goal i state branch)) t
     closed_by_waking place event failures size e s h =
-        let p = of_state (λ b m ks n. Posted ks n × (t ≡ unmet_step b place (Unmet i state branch failures) poster (get_or ks poster no_stack))) s h ((has, found), e) in
+        let p = of_state (λ b m ks. Posted ks × (t ≡ unmet_step b place (Unmet i state branch failures) poster (get_or ks poster no_stack))) s h ((has, found), e) in
         subst⁻¹ (λ (u : Step). Replies (close (view_state s) (record { place = place; it = event }) (Goal i state branch)) (applied s u)) p.1
-        (unmet s h.sized h.fit place event failures i state branch poster (stack_at s poster) size p.0.0 p.0.1 refl)
+        (unmet s h.sized h.fit place event failures i state branch poster (get_or (standing s) poster no_stack) size p.0.0 p.0.1
+        (poster_is s h.sized (Goal i state branch) poster p.0.0 p.0.1))

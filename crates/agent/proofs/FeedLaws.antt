@@ -3,7 +3,7 @@ use Prim.Native.Nat.{ℕ}
 use native.Mathlib.Omega.{arith}
 use mathlib.Core.Path.{◌≡◌, refl, ap, sym, subst, subst⁻¹, ◌∙◌}
 use mathlib.Core.Bool.{Bool, true, false}
-use mathlib.Core.Option.{Option, none, some}
+use Rattle.std.specs.Prelude.{Option, None, Some}
 use mathlib.Core.List.{List, [], ◌∷◌, ◌++◌}
 use Rattle.lists.proofs.BoolLaws.{both_ways}
 use Rattle.library.specs.Layout.{library_of}
@@ -29,21 +29,21 @@ use Rattle.agent.specs.Feed.{respond_by, unreadable, refusal_for, Trusted, Respo
 
 module _ (bytes : List ℕ) (s : State) where
   -- a worker's reply to a call
-  pub responds_act : (c : Call) (r : Acted) → Gives s (act (library_of bytes) (view_state s) c) r → Responds bytes true s (some c) r
+  pub responds_act : (c : Call) (r : Acted) → Gives s (act (library_of bytes) (view_state s) c) r → Responds bytes true s (Some c) r
   unfolding respond_by call_by
   responds_act c r g = record { means = g.means; refused = g.refused; fit = λ e. g.fit; count = g.count }
 
   -- a line that cannot be read
-  pub responds_unread : (formed : Bool) → (formed ≡ true → counts_fit s ≡ true) → (r : Acted) → r ≡ plainly s (Refused 0) → Responds bytes formed s none r
+  pub responds_unread : (formed : Bool) → (formed ≡ true → counts_fit s ≡ true) → (r : Acted) → r ≡ plainly s (Refused 0) → Responds bytes formed s None r
   unfolding respond_by
-  responds_unread formed fits r z = subst⁻¹ (Responds bytes formed s none) z (record { means = refl; refused = λ e. refl; fit = fits; count = omega arith })
+  responds_unread formed fits r z = subst⁻¹ (Responds bytes formed s None) z (record { means = refl; refused = λ e. refl; fit = fits; count = omega arith })
 
   -- a state that is not well formed
   pub responds_refused : (formed : Bool) → formed ≡ false → (c : Option Call) (r : Acted) → r ≡ plainly s (Refused (refusal_for c)) → Responds bytes formed s c r
   unfolding respond_by call_by
-  responds_refused formed e none r z = responds_unread formed (λ t. both_ways t e) r z
-  responds_refused formed e (some c) r z =
-      subst⁻¹ (Responds bytes formed s (some c)) z (record { means = rw e; refused = λ t. refl; fit = λ t. both_ways t e; count = omega arith })
+  responds_refused formed e None r z = responds_unread formed (λ t. both_ways t e) r z
+  responds_refused formed e (Some c) r z =
+      subst⁻¹ (Responds bytes formed s (Some c)) z (record { means = rw e; refused = λ t. refl; fit = λ t. both_ways t e; count = omega arith })
 
   -- a line keeps a well-formed state well formed
   pub responds_kept : WellFormedState bytes s → (c : Option Call) (r : Acted) → Responds bytes true s c r → WellFormedState bytes r.state
@@ -51,8 +51,8 @@ module _ (bytes : List ℕ) (s : State) where
   responds_kept w c r h = record { accepted = w.accepted; fit = h.fit refl; formed = formed c h }
     where
       formed : (c : Option Call) → Responds bytes true s c r → is_well_formed (library_of bytes) (view_state r.state) ≡ true
-      formed none h = subst⁻¹ (λ (x : AgentState). is_well_formed (library_of bytes) x ≡ true) (ap (λ (y : Reply). y.state) h.means) w.formed
-      formed (some c) h =
+      formed None h = subst⁻¹ (λ (x : AgentState). is_well_formed (library_of bytes) x ≡ true) (ap (λ (y : Reply). y.state) h.means) w.formed
+      formed (Some c) h =
           let same : view_acted r ≡ call (library_of bytes) (view_state s) c
           = h.means ∙ ap (λ (b : Bool). call_by b (library_of bytes) (view_state s) c) (sym w.formed) in
           subst⁻¹ (λ (y : Reply). is_well_formed (library_of bytes) y.state ≡ true) same (promises (library_of bytes) (acceptable bytes w.accepted) (view_state s) w.formed c).formed
@@ -61,27 +61,27 @@ module _ (bytes : List ℕ) (s : State) where
   responds_as e c r h = subst⁻¹ (λ (b : Bool). Responds bytes b s c r) e h
 
   -- the same, of what a line is known to say
-  pub as_told : {formed : Bool} {call : Option Call} {c : Call} {r : Acted} → formed ≡ true → call ≡ some c → Responds bytes true s (some c) r
+  pub as_told : {formed : Bool} {call : Option Call} {c : Call} {r : Acted} → formed ≡ true → call ≡ Some c → Responds bytes true s (Some c) r
       → Responds bytes formed s call r
-  as_told {formed} {call} {c} {r} e told h = subst⁻¹ (λ (o : Option Call). Responds bytes formed s o r) told (responds_as e (some c) r h)
+  as_told {formed} {call} {c} {r} e told h = subst⁻¹ (λ (o : Option Call). Responds bytes formed s o r) told (responds_as e (Some c) r h)
 
   pub trusted_next : (formed : Bool) → Trusted formed bytes s → (c : Option Call) (r : Acted) → Responds bytes formed s c r → Trusted formed bytes r.state
   trusted_next true t c r h = λ e. responds_kept (t refl) c r h
   trusted_next false t c r h = λ e. both_ways e refl
 
   -- a line that cannot be read has the one result, and leaves every place of the state as it was
-  unread_result : (formed : Bool) (r : Acted) → Responds bytes formed s none r → view_result r.result ≡ unreadable
+  unread_result : (formed : Bool) (r : Acted) → Responds bytes formed s None r → view_result r.result ≡ unreadable
   unfolding respond_by
   unread_result formed r h = ap (λ (y : Reply). y.result) h.means
 
-  unread_state : (formed : Bool) (r : Acted) → Responds bytes formed s none r → r.state ≡ s
+  unread_state : (formed : Bool) (r : Acted) → Responds bytes formed s None r → r.state ≡ s
   unread_state formed r h = h.refused (ap (λ (x : Result). is_refusal x.answer) (unread_result formed r h))
 
   -- on a state that is not well formed every line is refused
   unformed_state : (c : Option Call) (r : Acted) → Responds bytes false s c r → r.state ≡ s
   unfolding respond_by call_by
-  unformed_state none r h = unread_state false r h
-  unformed_state (some c) r h = h.refused (ap (λ (y : Reply). is_refusal y.result.answer) h.means)
+  unformed_state None r h = unread_state false r h
+  unformed_state (Some c) r h = h.refused (ap (λ (y : Reply). is_refusal y.result.answer) h.means)
 
 -- ---- A run on the agent's state is a journal of the agent
 
@@ -92,11 +92,11 @@ module _ (a : Agent) (bytes : List ℕ) where
       → Responds bytes formed t call r → fits (view_result r.result) ≡ true
       → Journal a (calls ++ (call ∷ [])) (text ++ result_text (view_result r.result)) (in_state a r.state)
   unfolding respond_by call_by
-  journal_then formed t w own {calls} {text} j none r h fit =
-      let put : Journal a (calls ++ (none ∷ [])) (text ++ result_text (view_result r.result)) (in_state a t)
-      = subst⁻¹ (λ (x : Result). Journal a (calls ++ (none ∷ [])) (text ++ result_text x) (in_state a t)) (unread_result bytes t formed r h) (unread j) in
-      subst⁻¹ (λ (u : State). Journal a (calls ++ (none ∷ [])) (text ++ result_text (view_result r.result)) (in_state a u)) (unread_state bytes t formed r h) put
-  journal_then formed t w own j (some c) r h fit =
+  journal_then formed t w own {calls} {text} j None r h fit =
+      let put : Journal a (calls ++ (None ∷ [])) (text ++ result_text (view_result r.result)) (in_state a t)
+      = subst⁻¹ (λ (x : Result). Journal a (calls ++ (None ∷ [])) (text ++ result_text x) (in_state a t)) (unread_result bytes t formed r h) (unread j) in
+      subst⁻¹ (λ (u : State). Journal a (calls ++ (None ∷ [])) (text ++ result_text (view_result r.result)) (in_state a u)) (unread_state bytes t formed r h) put
+  journal_then formed t w own j (Some c) r h fit =
       answered j c (record { agent = in_state a r.state; result = r.result }) (record {
         means = h.means ∙ library formed own ∙ ap (λ (b : Bool). call_by b (library_of (bytes_of a)) (view_state t) c) (sym w);
         library = refl;
@@ -106,7 +106,7 @@ module _ (a : Agent) (bytes : List ℕ) where
         count = h.count;
       }) fit
     where
-      library : (b : Bool) → (b ≡ true → bytes ≡ bytes_of a) → respond_by b (library_of bytes) (view_state t) (some c) ≡ call_by b (library_of (bytes_of a)) (view_state t) c
+      library : (b : Bool) → (b ≡ true → bytes ≡ bytes_of a) → respond_by b (library_of bytes) (view_state t) (Some c) ≡ call_by b (library_of (bytes_of a)) (view_state t) c
       library false own = refl
       library true own = ap (λ (l : List ℕ). act (library_of l) (view_state t) c) (own refl)
 

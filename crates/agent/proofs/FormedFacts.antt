@@ -1,11 +1,11 @@
 -- What a well-formed state gives to the code: each worker's needs.
 use Prim.Native.Nat.{ℕ, ◌+◌, ◌<◌, ◌≤◌}
 use native.Mathlib.Omega.{arith}
-use mathlib.Core.Path.{◌≡◌, refl, ap, sym, subst, ◌∙◌}
+use mathlib.Core.Path.{◌≡◌, refl, ap, sym, subst, subst⁻¹, ◌∙◌}
 use mathlib.Core.Bool.{Bool, true, false, cond, not, ◌&&◌, ◌||◌}
-use mathlib.Core.Option.{Option, none, some}
+use Rattle.std.specs.Prelude.{Option, None, Some}
 use mathlib.Core.List.{List, [], ◌∷◌, ◌++◌}
-use lib.ListN.{length, get_or, length-append}
+use lib.ListN.{length, get_or, length-map, length-append}
 use lib.Seq.{get_or-take}
 use lib.Dec.{ltb, leb, eqb}
 use borrow.Author.Tests.{ltb-true, leb-false, eq-eqb, not-true}
@@ -55,7 +55,7 @@ use Rattle.state.specs.View.{no_stack, depth_of, view_stack, queued_of, stacked_
 use Rattle.state.proofs.ViewLaws.{length_queue, length-stacks, stack_at_lem}
 use Rattle.state.proofs.StackLaws.{length-down}
 use Rattle.steps.specs.Report.{Hears}
-use Rattle.agent.specs.TakeUp.{poster_in, HasPoster, HasPlace}
+use Rattle.agent.specs.TakeUp.{standing, poster_in, HasPoster, HasPlace}
 use Rattle.agent.specs.Turnable.{Runnable, Turnable}
 use Rattle.steps.specs.View.{Sized, event_at, stack_at}
 use Rattle.state.proofs.CountParts.{counts-parts}
@@ -72,14 +72,14 @@ action-posts literal goal false e = let z : ◌≡◌ {A = ℕ} 0 1 = cc in absu
 
 divide-posts : {P : Type 0} (o : Option Env) (goal : Literal) → try_divide o ≡ posted goal → P
 unfolding try_divide
-divide-posts none goal e = let z : ◌≡◌ {A = ℕ} 0 1 = cc in absurd (omega arith)
-divide-posts (some env) goal e = let z : ◌≡◌ {A = ℕ} 0 1 = cc in absurd (omega arith)
+divide-posts None goal e = let z : ◌≡◌ {A = ℕ} 0 1 = cc in absurd (omega arith)
+divide-posts (Some env) goal e = let z : ◌≡◌ {A = ℕ} 0 1 = cc in absurd (omega arith)
 
 pursue-posts : (answer : Option Env) (barred : Bool) (literal goal : Literal) → pursue answer barred literal ≡ posted goal → barred ≡ false
 unfolding pursue
-pursue-posts (some env) barred literal goal e = let z : ◌≡◌ {A = ℕ} 0 1 = cc in absurd (omega arith)
-pursue-posts none true literal goal e = let z : ◌≡◌ {A = ℕ} 0 1 = cc in absurd (omega arith)
-pursue-posts none false literal goal e = refl
+pursue-posts (Some env) barred literal goal e = let z : ◌≡◌ {A = ℕ} 0 1 = cc in absurd (omega arith)
+pursue-posts None true literal goal e = let z : ◌≡◌ {A = ℕ} 0 1 = cc in absurd (omega arith)
+pursue-posts None false literal goal e = refl
 
 posted_low : (beliefs : List Literal) (height : ℕ) (env : Env) (b : Branch) (goal : Literal) → attempt beliefs height env b ≡ posted goal → height < 8
 unfolding attempt try_change try_action is_barred
@@ -169,12 +169,12 @@ module _ (bytes : List ℕ) (s : State) (fits : counts_fit s ≡ true) (formed :
     unserved = any_none (serves (event_at s place).origin) (live (view_stacks s)) (not-true _ pending)
 
     -- an external event is taken up only where there is room for a stack
-    external_room : is_goal (event_at s place).origin ≡ false → s.stacked < 8
+    external_room : is_goal (event_at s place).origin ≡ false → length (standing s) < 8
     unfolding is_ready
     external_room g =
         let held = (and_parts (is_pending (live (view_stacks s)) (event_at s place)) _ ready).1 in
         let few : ltb (length (view_stacks s)) 8 ≡ true = rw g at held in
-        omega (arith, ltb-true (length (view_stacks s)) 8 few, length-stacks s stacks-size)
+        omega (arith, ltb-true (length (view_stacks s)) 8 few, length-map (standing s) view_stack)
 
     -- the queue with the event put first
     event_first : Formed (library_of bytes) (view s.beliefs) (event_at s place ∷ remove_at place (view_queue s)) (view_stacks s) s.taken s.made
@@ -183,20 +183,26 @@ module _ (bytes : List ℕ) (s : State) (fits : counts_fit s ≡ true) (formed :
         reform (subst (λ (x : Event). Like (view_queue s) (x ∷ remove_at place (view_queue s))) event_is moved) (like_refl (view_stacks s)) whole
 
     -- the poster of a pending goal is the top of a stack with room
-    goal_poster : is_goal (event_at s place).origin ≡ true → HasPoster s.stacks s.stacked (event_at s place).origin
+    goal_poster : is_goal (event_at s place).origin ≡ true → HasPoster (standing s) (event_at s place).origin
     goal_poster g =
         let origin = (event_at s place).origin in
         let some-poster = poster_found event_first g (origin_same origin) unserved in
         let at = any-position (is_poster origin) (view_stacks s) in
-        let found-there = ltb-true (poster_in s.stacks s.stacked origin) (length (view_stacks s)) (sym at ∙ some-any (is_poster origin) (view_stacks s) some-poster) in
-        let low-there : poster_in s.stacks s.stacked origin < stacked_of s = omega (arith, length-stacks s stacks-size) in
-        let is-poster = subst (λ (k : Intention). is_poster origin k ≡ true) (stack_at_lem s (poster_in s.stacks s.stacked origin) no_stack low-there)
-        (passes_at (is_poster origin) (view_stacks s) (poster_in s.stacks s.stacked origin) (view_stack no_stack) refl found-there) in
-        let asleep = (and_parts (is_suspended (stack_at s (poster_in s.stacks s.stacked origin)).top.status) _ is-poster).0 in
-        let height = (first_stacked (stack-first (poster_in s.stacks s.stacked origin) no_stack low-there)).room asleep in
-        record { there = low-there; room = omega (arith, height, length-down (depth_of (stack_at s (poster_in s.stacks s.stacked origin))) (stack_at s (poster_in s.stacks s.stacked origin)).below) }
+        let found-there = ltb-true (poster_in (standing s) origin) (length (view_stacks s)) (sym at ∙ some-any (is_poster origin) (view_stacks s) some-poster) in
+        let low-there : poster_in (standing s) origin < stacked_of s = omega (arith, length-stacks s stacks-size) in
+        let is-poster = subst (λ (k : Intention). is_poster origin k ≡ true) (stack_at_lem s (poster_in (standing s) origin) no_stack low-there)
+        (passes_at (is_poster origin) (view_stacks s) (poster_in (standing s) origin) (view_stack no_stack) refl found-there) in
+        let asleep = (and_parts (is_suspended (stack_at s (poster_in (standing s) origin)).top.status) _ is-poster).0 in
+        let height = (first_stacked (stack-first (poster_in (standing s) origin) no_stack low-there)).room asleep in
+        let room : (stack_at s (poster_in (standing s) origin)).depth < 7
+        = omega (arith, height, length-down (depth_of (stack_at s (poster_in (standing s) origin))) (stack_at s (poster_in (standing s) origin)).below) in
+        let is = get_or-take (stacked_of s) s.stacks (poster_in (standing s) origin) no_stack low-there in
+        record {
+          there = omega (arith, low-there, length-map (standing s) view_stack, length-stacks s stacks-size);
+          room = subst⁻¹ (λ (k : Stack). k.depth < 7) is room;
+        }
 
-    pub has_place : HasPlace s.stacks s.stacked (event_at s place).origin
+    pub has_place : HasPlace (standing s) (event_at s place).origin
     has_place = record { external = external_room; goal = goal_poster }
 
   -- ---- The turn of a stack

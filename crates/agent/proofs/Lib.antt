@@ -1,5 +1,6 @@
 pub mod EventLaws
 pub mod TakeUpLaws
+pub mod EndLaws
 pub mod TurnLaws
 pub mod FormedFacts
 pub mod CycleLaws

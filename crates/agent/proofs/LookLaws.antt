@@ -1,19 +1,22 @@
 -- What a look at the stacks tells is so: what it answers, and that no event may be taken up where a stack has its turn.
 use Prim.Native.Nat.{ℕ, ◌<◌, ◌≤◌}
 use native.Mathlib.Omega.{arith}
-use mathlib.Core.Path.{◌≡◌, refl, sym, subst, subst⁻¹}
+use mathlib.Core.Path.{◌≡◌, refl, ap, sym, subst, subst⁻¹, ◌∙◌}
 use mathlib.Core.Bool.{Bool, true, false}
-use mathlib.Core.Option.{Option, some}
-use mathlib.Core.List.{List}
+use Rattle.std.specs.Prelude.{Option, Some, None}
+use mathlib.Core.List.{List, map}
 use lib.Dec.{ltb}
-use lib.ListN.{length}
-use borrow.Author.Tests.{ltb-false, lt-ltb, le-ltb}
-use Rattle.lists.specs.Search.{any, position}
+use lib.ListN.{length, take, length-map}
+use borrow.Author.Tests.{ltb-false}
+use Rattle.std.specs.List as std
+use Rattle.std.specs.List.{list_any}
+use Rattle.lists.specs.Search.{position}
 use Rattle.lists.proofs.BoolLaws.{by_cases, or_parts}
+use Rattle.lists.proofs.PositionLaws.{position_some, position_none}
 use Rattle.library.specs.Layout.{library_of}
 use Rattle.model.specs.declared.Answer.{Answer}
 use Rattle.model.specs.declared.Answer.TheVariants.{Idle, Refused}
-use Rattle.model.specs.State.{Call, cycle, outcome}
+use Rattle.model.specs.State.{Intention, Call, cycle, outcome}
 use Rattle.model.specs.Live.{live, is_ready}
 use Rattle.model.specs.Outcome.{is_awaiting, told}
 use Rattle.model.specs.Turn.{is_running, turn}
@@ -23,7 +26,7 @@ use Rattle.model.proofs.WellFormedTest.{test_formed}
 use Rattle.model.proofs.PendingLaws.{none_pending, none_ready}
 use Rattle.state.specs.declared.Stack.{Stack}
 use Rattle.state.specs.declared.State.{State}
-use Rattle.state.specs.View.{queued_of, stacked_of, view_queue, view_stacks, view_state}
+use Rattle.state.specs.View.{view_stack, queued_of, stacked_of, view_queue, view_stacks, view_state}
 use Rattle.state.specs.Search.{is_asleep}
 use Rattle.state.proofs.ViewLaws.{length_queue, length-stacks}
 use Rattle.state.proofs.CountParts.{counts-parts}
@@ -37,26 +40,29 @@ use Rattle.steps.specs.Outcome.{told_step, Awaits}
 use Rattle.steps.specs.Step.{applied}
 use Rattle.formed.specs.Formed.{WellFormedState}
 use Rattle.agent.specs.Feed.{Trusted, Responds}
-use Rattle.agent.specs.Look.{viewed, may_take_up, Answers, unformed, unread, idle, unawaited, Looks, Looked, place_of}
+use Rattle.agent.specs.Look.{may_take_up, Answers, unformed, unread, idle, unawaited, Looks, Looked, place_of}
 use Rattle.agent.proofs.CycleLaws.{cycled-turn, cycled_idle}
 use Rattle.steps.proofs.OutcomeLaws.{told_gives, told-refused}
 use Rattle.agent.proofs.FormedFacts.{runnable, turnable}
 use Rattle.agent.proofs.FeedLaws.{responds_act, responds_unread, responds_refused, responds_as}
 
--- ---- Whether an event may be taken up
+-- ---- The stack that a search found, or that there is none
 
-module _ (stacks : List Stack) (stacked queued found : ℕ) (e : found ≡ length (live (viewed stacks stacked))) where
-  pub may_few : queued ≤ found → false ≡ may_take_up stacks stacked queued
-  unfolding may_take_up
-  may_few h = rw (le-ltb (length (live (viewed stacks stacked))) queued (omega (arith, e, h)))
+module _ (s : State) (few : s.stacked ≤ 8) (stacks : List Stack) (e : stacks ≡ take (stacked_of s) s.stacks) (size : length stacks ≡ stacked_of s)
+    (test : Intention → Bool) (found : Option ℕ) (f : found ≡ std.position test (map view_stack stacks)) where
+  seen : map view_stack stacks ≡ view_stacks s
+  seen = ap (map view_stack) e
 
-  pub may_open : found < queued → stacked < 8 → true ≡ may_take_up stacks stacked queued
-  unfolding may_take_up
-  may_open h low = rw (lt-ltb (length (live (viewed stacks stacked))) queued (omega (arith, e, h)), lt-ltb stacked 8 low)
+  long : length (view_stacks s) ≡ s.stacked
+  long = sym (ap length seen) ∙ length-map stacks view_stack ∙ size ∙ omega arith
 
-  pub may_asleep : found < queued → 8 ≤ stacked → any is_asleep (viewed stacks stacked) ≡ may_take_up stacks stacked queued
-  unfolding may_take_up
-  may_asleep h high = rw (lt-ltb (length (live (viewed stacks stacked))) queued (omega (arith, e, h)), le-ltb stacked 8 high)
+  pub stack_found : (place : ℕ) → found ≡ Some place → (place ≡ position test (view_stacks s)) × (place < s.stacked)
+  stack_found place h =
+      let at = position_some test (view_stacks s) place (sym h ∙ f ∙ ap (std.position test) seen) in
+      (at.0, omega (arith, at.1, long))
+
+  pub stack_missing : found ≡ None → s.stacked ≤ position test (view_stacks s)
+  stack_missing h = omega (arith, position_none test (view_stacks s) (sym h ∙ f ∙ ap (std.position test) seen), long)
 
 -- ---- What the look tells is so
 
@@ -73,7 +79,7 @@ module _ (bytes : List ℕ) (s : State) (sized : Sized s) where
     within = (counts-parts s w.fit).stacked
 
     -- there is none
-    pub none_taken : may_take_up s.stacks s.stacked s.queued ≡ false → queued_of s ≤ next
+    pub none_taken : may_take_up s ≡ false → queued_of s ≤ next
     unfolding may_take_up
     none_taken e = by_cases (ltb (length (live (view_stacks s))) s.queued) full few
       where
@@ -86,7 +92,7 @@ module _ (bytes : List ℕ) (s : State) (sized : Sized s) where
 
         full : ltb (length (live (view_stacks s))) s.queued ≡ true → queued_of s ≤ next
         full h =
-            let p = or_parts (ltb s.stacked 8) (any is_asleep (view_stacks s)) (rw h at e) in
+            let p = or_parts (ltb s.stacked 8) (list_any is_asleep (view_stacks s)) (rw h at e) in
             let many = ltb-false s.stacked 8 p.0 in
             omega (arith, none_ready whole (omega (arith, many, length-stacks s sized.stacks)) p.1, length_queue s sized.queue)
 
@@ -96,8 +102,8 @@ module _ (bytes : List ℕ) (s : State) (sized : Sized s) where
       pub turn_runnable : Runnable bytes s.beliefs stack
       turn_runnable = subst⁻¹ (Runnable bytes s.beliefs) is (runnable bytes s w.fit w.formed sized w.accepted place (omega (arith, within, low)))
 
-      pub turn_responds : may_take_up s.stacks s.stacked s.queued ≡ false → place ≡ position is_running (view_stacks s)
-          → (t : Step) → Turns bytes s.beliefs place stack t → Responds bytes true s (some cycle) (applied s t)
+      pub turn_responds : may_take_up s ≡ false → place ≡ position is_running (view_stacks s)
+          → (t : Step) → Turns bytes s.beliefs place stack t → Responds bytes true s (Some cycle) (applied s t)
       unfolding act
       turn_responds e f t turns =
           let there : place < stacked_of s = omega (arith, within, low) in
@@ -107,7 +113,7 @@ module _ (bytes : List ℕ) (s : State) (sized : Sized s) where
           responds_act bytes s cycle (applied s t) (cycled-turn bytes s sized.queue sized.stacks next refl (none_taken e) place f there (applied s t) own)
 
       pub tell_responds : (id : ℕ) (worked : Bool) → place ≡ position (is_awaiting id) (view_stacks s)
-          → (t : Step) → t ≡ told_step (library_of bytes) s.beliefs place stack worked → Responds bytes true s (some (outcome id worked)) (applied s t)
+          → (t : Step) → t ≡ told_step (library_of bytes) s.beliefs place stack worked → Responds bytes true s (Some (outcome id worked)) (applied s t)
       unfolding act
       tell_responds id worked f t e =
           let awaits : Awaits s s.beliefs id place stack =
@@ -119,22 +125,22 @@ module _ (bytes : List ℕ) (s : State) (sized : Sized s) where
   -- ---- What leaves it as it is
 
   pub answers-respond : (formed : Bool) {call : Option Call} {answer : Answer} → Trusted formed bytes s
-      → Answers formed s.stacks s.stacked s.queued call answer → Responds bytes formed s call (plainly s answer)
+      → Answers formed s call answer → Responds bytes formed s call (plainly s answer)
   unfolding act
   answers-respond formed trusted (unformed call e) = responds_refused bytes s formed e call (plainly s (Refused _)) refl
   answers-respond formed trusted unread = responds_unread bytes s formed (λ e. (trusted e).fit) (plainly s (Refused 0)) refl
   answers-respond formed trusted (idle e m h) =
       let w = trusted e in
-      responds_as bytes s e (some cycle) (plainly s Idle) (responds_act bytes s cycle (plainly s Idle)
+      responds_as bytes s e (Some cycle) (plainly s Idle) (responds_act bytes s cycle (plainly s Idle)
       (cycled_idle bytes s sized.queue sized.stacks next refl (none_taken w m) (position is_running (view_stacks s)) refl (omega (arith, within w)) w.fit (plainly s Idle) refl))
   answers-respond formed trusted (unawaited e id worked h) =
       let w = trusted e in
-      responds_as bytes s e (some (outcome id worked)) (plainly s (Refused 8)) (responds_act bytes s (outcome id worked) (plainly s (Refused 8))
+      responds_as bytes s e (Some (outcome id worked)) (plainly s (Refused 8)) (responds_act bytes s (outcome id worked) (plainly s (Refused 8))
       (told-refused (library_of bytes) s id worked (position (is_awaiting id) (view_stacks s)) refl sized w.fit (omega (arith, within w)) (plainly s (Refused 8)) refl))
 
 -- of a state, whatever the library
 pub looked : (s : State) → Sized s → (formed : Bool) (call : Option Call) (found : Look)
-    → Looks formed s.stacks s.stacked s.queued call found → Looked formed s call found
+    → Looks formed s call found → Looked formed s call found
 looked s sized formed call (look.Answered answer) h = λ bytes trusted. answers-respond bytes s sized formed trusted h
 looked s sized formed call (look.Reports kind l) h = h
 looked s sized formed call look.Searches h = h

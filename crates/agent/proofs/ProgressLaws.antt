@@ -3,7 +3,7 @@ use Prim.Native.Nat.{ℕ, ◌+◌, ◌≤◌}
 use native.Mathlib.Omega.{arith}
 use mathlib.Core.Path.{◌≡◌, refl, ap, sym, subst⁻¹, ◌∙◌}
 use mathlib.Core.Bool.{Bool, true}
-use mathlib.Core.Option.{Option, some}
+use Rattle.std.specs.Prelude.{Option, None, Some}
 use mathlib.Core.List.{List, [], ◌∷◌, ◌++◌, append_assoc}
 use lib.ListN.{length, drop, drop_of_length-le}
 use lib.Seq.{take-length}
@@ -12,10 +12,9 @@ use Rattle.state.specs.declared.State.{State}
 use Rattle.printing.specs.LineText.{result_text, most_line, fits}
 use Rattle.writing.specs.Writing.{Wrote}
 use Rattle.writing.proofs.WritingLaws.{nothing, then as write_then}
-use Rattle.reading.specs.declared.Spoken.{Spoken}
 use Rattle.reading.specs.Spoken.{meaning}
 use Rattle.stream.specs.declared.Carry.{Carry}
-use Rattle.stream.specs.declared.Next.TheVariants.{Line, Used}
+use Rattle.stream.specs.declared.Line.{Line}
 use Rattle.stream.specs.Carried.{begun, more}
 use Rattle.stream.specs.Calls.{calls_from, line_after, next_line, shown}
 use Rattle.stream.proofs.ChunkLaws.{line_ends, line_goes_on, line_after_lem, used_after}
@@ -29,27 +28,27 @@ module _ (bytes : List ℕ) (formed : Bool) (s : State) (carry : Carry) (chunk b
 
   module _ {after : List ℕ} {t : State} {held : Carry} {read wrote : ℕ} (p : Progress bytes formed s carry chunk before after t held read wrote) where
     -- a line ends: it is run, and its result printed where there is room for the longest
-    pub progress-line : wrote + most_line ≤ length before → (call : Spoken) (behind : ℕ) → shown (Line call behind) ≡ next_line chunk read (begun held)
-        → (r : Acted) → Responds bytes formed t (meaning call) r → fits (view_result r.result) ≡ true
+    pub progress-line : wrote + most_line ≤ length before → (line : Line) → shown (Some line) ≡ next_line chunk read (begun held)
+        → (r : Acted) → Responds bytes formed t (meaning line.call) r → fits (view_result r.result) ≡ true
         → {later : List ℕ} {next : ℕ} → Wrote most_line after later wrote next (result_text (view_result r.result))
-        → (fresh : Carry) → begun fresh ≡ some [] → Progress bytes formed s carry chunk before later r.state fresh behind next
-    progress-line room call behind told r h fit w fresh new =
+        → (fresh : Carry) → begun fresh ≡ Some [] → Progress bytes formed s carry chunk before later r.state fresh line.at next
+    progress-line room line told r h fit w fresh new =
         let both = write_then p.written w in
         record {
-          calls = p.calls ++ (meaning call ∷ []);
+          calls = p.calls ++ (meaning line.call ∷ []);
           text = p.text ++ result_text (view_result r.result);
           said = λ rest. p.said rest
               ∙ ap (λ (l : List (Option Call)). p.calls ++ l)
-              (line_ends chunk read held call behind rest told ∙ ap (λ (o : Option (List ℕ)). meaning call ∷ calls_from o (drop behind chunk ++ rest)) (sym new))
-              ∙ sym (append_assoc p.calls (meaning call ∷ []) (calls_from (begun fresh) (drop behind chunk ++ rest)));
-          runs = then p.runs (meaning call) r h fit;
+              (line_ends chunk read held line rest told ∙ ap (λ (o : Option (List ℕ)). meaning line.call ∷ calls_from o (drop line.at chunk ++ rest)) (sym new))
+              ∙ sym (append_assoc p.calls (meaning line.call ∷ []) (calls_from (begun fresh) (drop line.at chunk ++ rest)));
+          runs = then p.runs (meaning line.call) r h fit;
           written = record { bytes = both.bytes; past = both.past; within = omega arith };
           roomy = roomy p.text (view_result r.result) (omega (arith, p.written.past, room));
-          so_far = new ∙ sym (line_after_lem chunk read held call behind told (begun carry));
+          so_far = new ∙ sym (line_after_lem chunk read held line told (begun carry));
         }
 
     -- no line ends in what is left of the chunk
-    pub progress_used : shown Used ≡ next_line chunk read (begun held) → (last : Carry) → begun last ≡ more (begun held) (drop read chunk)
+    pub progress_used : shown None ≡ next_line chunk read (begun held) → (last : Carry) → begun last ≡ more (begun held) (drop read chunk)
         → Progress bytes formed s carry chunk before after t last (length chunk) wrote
     progress_used told last new = record {
       calls = p.calls;

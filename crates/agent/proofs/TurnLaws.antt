@@ -24,14 +24,15 @@ use Rattle.model.specs.declared.Instance.{Instance}
 use Rattle.model.specs.declared.Origin.{Origin}
 use Rattle.model.specs.State.{Intention, AgentState, reply, requeued, restacked, after, no_event}
 use Rattle.model.specs.Live.{is_of}
-use Rattle.model.specs.Try.{attempt, last_in_turn, tried}
+use Rattle.model.specs.Try.{Try, missed, stepped, done, posted, attempt, last_in_turn, new_goal, tried}
 use Rattle.model.specs.Turn.{Move, tries, next_move, height_of, turn_by, turn}
 use Rattle.model.specs.End.{close_event, marked, mark_event, popped}
 use Rattle.state.specs.declared.Stack.{Stack}
 use Rattle.state.specs.declared.State.{State}
 use Rattle.state.specs.View.{depth_of, view_stack, queued_of, stacked_of, view_queue, view_stacks, view_state, counts_fit}
 use Rattle.state.specs.Queue.{enqueue, dequeue, with_failure, put_event}
-use Rattle.state.specs.Stacks.{pop, under_top}
+use Rattle.state.specs.Stacks.{replace_top, pop, under_top}
+use Rattle.state.proofs.CountParts.{counts-parts}
 use Rattle.state.proofs.ViewLaws.{length_queue}
 use Rattle.state.proofs.StackLaws.{pop-view}
 use Rattle.state.proofs.StateLaws.{enqueue-state, dequeue-state, put_event-state, enqueue_stacked, dequeue_stacked, put_event_stacked, drop-state, last_state}
@@ -45,12 +46,15 @@ use Rattle.trials.specs.declared.changes.Altered.{Altered}
 use Rattle.steps.specs.declared.step.Step.{Step}
 use Rattle.steps.specs.Gives.{Replies}
 use Rattle.trials.specs.Altered.{Alters, Within}
+use Rattle.trials.specs.Trial.{changes_by}
+use Rattle.trials.proofs.AlteredLaws.{altered_within}
 use Rattle.steps.specs.View.{Sized}
 use Rattle.steps.specs.Step.{applied}
-use Rattle.agent.specs.Turnable.{placed, Standing, Turnable, ended}
+use Rattle.agent.specs.Turnable.{placed, top_after, answer_to, queue_after, Standing, HasRoom, Turnable, ended, Ended}
 use Rattle.steps.proofs.GivesLaws.{replies_as}
 use Rattle.steps.proofs.CountLaws.{counts-enqueue, counts-dequeue, counts-put_event, counts-drop, counts_last}
-use Rattle.steps.proofs.StepLaws.{step_replies, put-past, sized_enqueue, sized_dequeue, sized_put}
+use Rattle.state.proofs.QueueLaws.{put_event_past}
+use Rattle.steps.proofs.StepLaws.{step_replies, sized_enqueue, sized_dequeue, sized_put}
 
 -- ---- The reply
 
@@ -122,7 +126,7 @@ module _ (s : State) (place : ℕ) (stands : Standing s place) where
     unfolding mark_event change_at
     mark_past h =
         let none = first-none (is_of served) (view_queue s) (place_of s served) refl (omega (arith, length_queue s len)) in
-        ap view_state (sym (put-past s (place_of s served) event h)) ∙ ap (requeued (view_state s)) (sym (ap (change_at (marked plan) (view_queue s)) none))
+        ap view_state (sym (put_event_past s (place_of s served) h event)) ∙ ap (requeued (view_state s)) (sym (ap (change_at (marked plan) (view_queue s)) none))
 
     mark_there : place_of s served < queued_of s
         → view_state (put_event s (place_of s served) event) ≡ requeued (view_state s) (mark_event plan served (view_queue s))
@@ -164,6 +168,32 @@ ended-after s t place stack next answer changes queue altered a e =
       result = record { answer = answer; changes = noted i };
       state = record { beliefs = table i; queue = queue; stacks = remove_at place (view_stacks s) ++ next; taken = s.taken; made = s.made };
     })
+
+-- the step for what came of a branch: another top, and the stack goes last
+module _ (s : State) (place : ℕ) (stack : Stack) (branch : Branch) (altered : Altered) (t : Step) (stands : Standing s place) where
+  -- the try as the code found it
+  abbrev Answered : Try → Type 0
+  Answered try =
+      Ended place (view_stack (replace_top stack (top_after stack.top branch try)) ∷ []) (answer_to stack.top branch try) altered
+      (queue_after stack.top branch try) t
+
+  pub tried_replies : (try : Try) → Alters s.beliefs (changes_by try) altered → HasRoom s try → Answered try
+      → Replies (tried (view_state s) (placed place stack) branch try) (applied s t)
+  unfolding tried
+  tried_replies missed alters room goes =
+      replies_as (ended-after s s place stack _ _ [] (view_queue s) altered alters refl)
+      (goes s stands (altered_within alters (counts-parts s stands.counts).beliefs))
+  tried_replies (stepped env changes) alters room goes =
+      replies_as (ended-after s s place stack _ _ changes (view_queue s) altered alters refl)
+      (goes s stands (altered_within alters (counts-parts s stands.counts).beliefs))
+  tried_replies (done literal) alters room goes =
+      replies_as (ended-after s s place stack _ _ [] (view_queue s) altered alters refl)
+      (goes s stands (altered_within alters (counts-parts s stands.counts).beliefs))
+  tried_replies (posted goal) alters room goes =
+      let event = new_goal stack.top branch.kind goal in
+      let q = enqueue_requeues s place stands event (room goal refl) in
+      replies_as (ended-after s (enqueue s event) place stack _ _ [] (view_queue s ++ (event ∷ [])) altered alters q.shown)
+      (goes s q.standing (altered_within alters (counts-parts s stands.counts).beliefs))
 
 -- the turn of a stack, by the move of its top
 module _ (bytes : List ℕ) (s : State) (beliefs : Beliefs) (place : ℕ) (stack : Stack) (h : Turnable bytes s beliefs place stack) where

@@ -1,8 +1,7 @@
 -- A chunk of the journal: its lines, run one after the other (document 01, "Journal").
 -- The public contract is Feeds. Private vocabulary, on which no public contract rests: refusal_for, Trusted, Responds, Runs, in_state,
 -- Progress, RunsChunk and RunsOn.
-use Rattle.std.specs.Prelude.{ℕ, ◌+◌, ◌≤◌, ◌<◌, ◌≡◌, Bool, true, ◌⊎◌, List, [], ◌∷◌, ◌++◌, length, take, drop}
-use Rattle.std.proofs.Math.Option.{Option, none, some}
+use Rattle.std.specs.Prelude.{ℕ, ◌+◌, ◌≤◌, ◌<◌, ◌≡◌, Bool, true, ◌⊎◌, List, [], ◌∷◌, ◌++◌, length, take, drop, Option, None, Some}
 use Rattle.library.specs.Plan.{Library}
 use Rattle.library.specs.Layout.{library_of}
 use Rattle.model.specs.declared.Answer.TheVariants.{Refused}
@@ -28,8 +27,8 @@ use Rattle.agent.specs.Calls.{Calls}
 
 -- the reply to what a line says, by whether the state is well formed: 0 where the line cannot be read
 unfoldable pub respond_by : Bool → Library → AgentState → Option Call → Reply
-respond_by formed library s none = refuse 0 s
-respond_by formed library s (some call) = call_by formed library s call
+respond_by formed library s None = refuse 0 s
+respond_by formed library s (Some call) = call_by formed library s call
 
 -- the result of a line that cannot be read
 abbrev pub unreadable : Result
@@ -37,8 +36,8 @@ unreadable = record { answer = Refused 0; changes = [] }
 
 -- what a line is refused with where the state is not well formed
 abbrev pub refusal_for : Option Call → ℕ
-refusal_for none = 0
-refusal_for (some call) = 10
+refusal_for None = 0
+refusal_for (Some call) = 10
 
 -- where it is said that the state is well formed, it is
 abbrev pub Trusted : Bool → List ℕ → State → Type 0
@@ -71,11 +70,11 @@ pub data Journal (a : Agent) : List (Option Call) → List ℕ → Agent → Typ
   start : Journal a [] [] a
   -- a line that cannot be read changes nothing
   unread : {calls : List (Option Call)} {text : List ℕ} {b : Agent} → Journal a calls text b
-      → Journal a (calls ++ (none ∷ [])) (text ++ result_text unreadable) b
+      → Journal a (calls ++ (None ∷ [])) (text ++ result_text unreadable) b
   -- another is a call; no other result has the text of its result
   answered : {calls : List (Option Call)} {text : List ℕ} {b : Agent} → Journal a calls text b
       → (c : Call) (r : Replied) → Calls b c r → fits (view_result r.result) ≡ true
-      → Journal a (calls ++ (some c ∷ [])) (text ++ result_text (view_result r.result)) r.agent
+      → Journal a (calls ++ (Some c ∷ [])) (text ++ result_text (view_result r.result)) r.agent
 
 -- ---- A chunk
 
@@ -86,7 +85,7 @@ pub data Roomy (size : ℕ) : List ℕ → Type 0 where
 
 -- nothing is read yet, or what is read ends with a line
 abbrev pub Between : Carry → Carry → ℕ → Type 0
-Between carry held read = ((read ≡ 0) × (held ≡ carry)) ⊎ (begun held ≡ some [])
+Between carry held read = ((read ≡ 0) × (held ≡ carry)) ⊎ (begun held ≡ Some [])
 
 -- by some of a chunk from a state and a line so far to those after it: what the input says is what the lines run have said,
 -- and then what is left of it; the text of their results stands at the output's start, and every other byte is as it was

@@ -1,62 +1,48 @@
 // The calls on an agent: a state that is not well formed is refused first.
-ghost use Rattle.std.specs.Prelude.{◌≡◌};
+ghost use Rattle.std.specs.Prelude.{Some, IfSome};
 ghost use Rattle.model.specs.State.{report, cycle, outcome};
-ghost use Rattle.agent.specs.Calls.{with_state, Calls};
+ghost use Rattle.reading.specs.Spoken.{meaning};
+ghost use Rattle.agent.specs.Calls.{Calls};
 
 use crate::{Replied, respond};
 use literal::Literal;
 use load::Agent;
 use model::Number;
 use reading::Spoken;
-use steps::Acted;
 
-// The agent with another state, and the result.
-fn replied(a: Agent, acted: Acted) -> Replied
-    ensures { result ≡ with_state a acted }
+// What a line may say, as a call: the library is lent, the state comes back.
+#[tactic(auto, using(crate::proofs::CallsLaws::calls_said))]
+fn called(a: Agent, spoken: Spoken) -> Replied
+    ensures { IfSome (meaning (Some spoken)) (λ call. Calls a call result) }
 {
-    let state = acted.state;
-    let result = acted.result;
+    let acted = respond::respond(&a.library, a.length, a.state, Some(spoken));
     Replied {
-        agent: Agent { state: state, ..a },
-        result: result,
+        agent: Agent {
+            state: acted.state,
+            ..a
+        },
+        result: acted.result,
     }
 }
 
 // A device reports: kind 0 a belief to add, 1 to remove, 2 an event that it tells.
+// The kind is a number, since a narrower type would ask more of callers: any other is refused.
 pub fn report(a: Agent, kind: u16, l: Literal) -> Replied
     ensures { Calls a (report kind l) result }
 {
-    let length = a.length;
-    let s = a.state;
-    let spoken = Spoken::Report {
-        kind: kind,
-        literal: l,
-    };
-    let acted = respond::respond(&a.library, length, s, spoken);
-    replied(a, acted)
+    called(a, Spoken::Report { kind, literal: l })
 }
 
 // One step of the agent.
 pub fn cycle(a: Agent) -> Replied
     ensures { Calls a cycle result }
 {
-    let length = a.length;
-    let s = a.state;
-    let spoken = Spoken::Cycle;
-    let acted = respond::respond(&a.library, length, s, spoken);
-    replied(a, acted)
+    called(a, Spoken::Cycle)
 }
 
 // A device answers: the external action of the instance worked, or not.
 pub fn outcome(a: Agent, id: Number, worked: bool) -> Replied
     ensures { Calls a (outcome id worked) result }
 {
-    let length = a.length;
-    let s = a.state;
-    let spoken = Spoken::Outcome {
-        id: id,
-        worked: worked,
-    };
-    let acted = respond::respond(&a.library, length, s, spoken);
-    replied(a, acted)
+    called(a, Spoken::Outcome { id, worked })
 }

@@ -6,9 +6,10 @@ ghost use Rattle.steps.specs.Gives.{Gives};
 ghost use Rattle.steps.specs.Step.{applied};
 ghost use Rattle.formed.specs.Formed.{WellFormedState};
 
-use crate::{event, turn};
+use crate::event;
+use crate::turn::Turn;
 use model::Answer;
-use state::{State, queue, search, stacks};
+use state::{State, search};
 use steps::step;
 use steps::step::Step;
 
@@ -17,18 +18,18 @@ pub(crate) fn cycle_on(library: &[u8], s: State) -> Step
     requires { WellFormedState library.now s }
     ensures { Gives s (cycled (library_of library.now) (view_state s)) (applied s result) }
 {
-    let b = s.beliefs;
-    let waiting = search::next_event(s);
-    if waiting < queue::queued_of(s) {
-        let event = s.queue[waiting];
-        let stacks = s.stacks;
-        return event::take_up(library, b, s.made, stacks, s.stacked, waiting, event);
+    if let Some(place) = search::next_event(s.events(), s.standing()) {
+        let event = s.queue[place];
+        return event::take_up(library, s.beliefs, s.made, s.standing(), place, event);
     }
-    let standing = s.stacks;
-    let running = search::next_stack(standing, s.stacked);
-    if running < stacks::stacked_of(s) {
-        let stack = s.stacks[running];
-        return turn::turn(library, b, running, stack);
+    if let Some(place) = search::next_stack(s.standing()) {
+        let turn = Turn {
+            library,
+            beliefs: s.beliefs,
+            place,
+            stack: s.stacks[place],
+        };
+        return turn.step();
     }
-    step::no_step(b, Answer::Idle)
+    step::no_step(s.beliefs, Answer::Idle)
 }

@@ -8,8 +8,8 @@ ghost use Rattle.steps.specs.Step.{applied};
 ghost use Rattle.agent.specs.Look.{Looked, place_of};
 
 use crate::look::Look;
-use crate::{cycle, look, turn};
-use model::Answer;
+use crate::turn::Turn;
+use crate::{cycle, look};
 use reading::Spoken;
 use state::{Stack, State};
 use steps::step::Step;
@@ -20,7 +20,7 @@ pub(crate) fn act(
     library: &[u8],
     formed: bool,
     s: State,
-    spoken: Spoken,
+    spoken: Option<Spoken>,
     look: Look,
     stack: Stack,
 ) -> Step
@@ -31,25 +31,31 @@ pub(crate) fn act(
     match look {
         Look::Answered(answer) => step::no_step(b, answer),
         Look::Reports { kind, literal } => {
-            let events = s.queue;
-            report::report_on(b, events, s.queued, s.taken, kind, literal)
+            report::report_on(b, s.events(), s.taken, kind, literal)
         }
         Look::Searches => cycle::cycle_on(library, s),
-        Look::Turns(place) => turn::turn(library, b, place, stack),
+        Look::Turns(place) => {
+            let turn = Turn {
+                library,
+                beliefs: b,
+                place,
+                stack,
+            };
+            turn.step()
+        }
         Look::Tells { place, worked } => outcome::tell_at(library, b, place, stack, worked),
     }
 }
 
 // A call, on the library in the first `length` bytes and a state: 10 first where they are not well formed.
-pub(crate) fn respond(library: &[u8], length: usize, s: State, spoken: Spoken) -> Acted
+pub(crate) fn respond(library: &[u8], length: usize, s: State, spoken: Option<Spoken>) -> Acted
     ensures { Responds (take length library.now) (is_well_formed_with library.now length s) s
         (meaning spoken) result }
 {
     if !formed::is_well_formed(library, length, s) {
-        let refusal = look::refusal_of(spoken);
-        return answer::acted(s, Answer::Refused(refusal));
+        return answer::acted(s, look::unformed_answer(spoken));
     }
-    let look = look::look_at(true, s, spoken);
+    let look = look::look_at(true, &s, spoken);
     let Look::Answered(answer) = look else {
         let own = &library[..length];
         let at = look::place_of(look);

@@ -1,25 +1,31 @@
 // The turn of a stack: what its top does, and the step for it.
 ghost use Rattle.std.specs.Prelude.{◌≡◌, ◌≤◌};
 ghost use Rattle.model.specs.Instance.{try_next};
-ghost use Rattle.model.specs.Try.{missed, stepped, done, posted};
-ghost use Rattle.state.specs.View.{most_below};
-ghost use Rattle.trials.specs.Altered.{changes_of};
 ghost use Rattle.trials.specs.Trial.{view_trial};
-ghost use Rattle.agent.specs.Turnable.{Runnable, Tried, TriesBranch, Turns};
+ghost use Rattle.agent.specs.Turnable.{top_after, answer_to, queue_after, Runnable, TriesBranch, Turns};
 
 use crate::ends;
 use belief::Beliefs;
 use jobs::decision::Decision;
 use jobs::{decision, instance};
 use library::Branch;
-use literal::{Env, Literal};
 use model::{Answer, Event, Instance, Origin, Status};
 use moves::QueueMove;
 use state::{Stack, stacks};
 use steps::step::Step;
-use trials::changes::Altered;
+use trials::changes::Ending;
 use trials::tries;
 use trials::tries::{Outcome, Trial};
+
+// A stack that has its turn, with its place, and what the turn is decided by.
+#[derive(Clone, Copy)]
+pub(crate) struct Turn<'a> {
+    pub(crate) library: &'a [u8],
+    pub(crate) beliefs: Beliefs,
+    pub(crate) place: usize,
+    pub(crate) stack: Stack,
+    pub(crate) ghost runnable: { Runnable library.now beliefs stack },
+}
 
 // ---- What came of a branch
 
@@ -29,135 +35,97 @@ fn with_try(x: Instance, status: Status) -> Instance
     ensures { result ≡ try_next status x }
 {
     let tried = x.tried + 1;
-    Instance {
-        tried: tried,
-        status: status,
-        ..x
+    Instance { tried, status, ..x }
+}
+
+// The instance after it: it misses and stays active, steps with no branch tried, waits for its action's outcome, or is suspended.
+fn top_after(x: Instance, branch: Branch, trial: &Trial) -> Instance
+    requires { x.tried ≤ 4 }
+    ensures { result ≡ top_after x branch (view_trial trial.now) }
+{
+    match trial.outcome {
+        Outcome::Missed => with_try(x, Status::Active),
+        Outcome::Stepped => instance::stepped_to(x, branch.next, trial.env),
+        Outcome::Done(_) => with_try(x, Status::Waiting),
+        Outcome::Posted(_) => with_try(x, Status::Suspended),
     }
 }
 
-// The branch missed: the instance stays active.
-fn on_missed(place: usize, stack: Stack, branch: Branch, altered: Altered) -> Step
-    requires { (stack.depth ≤ most_below) × (stack.top.tried ≤ 4) }
-    ensures { Tried place stack branch missed altered result }
+// What is answered.
+fn answer_to(x: Instance, branch: Branch, trial: &Trial) -> Answer
+    ensures { result ≡ answer_to x branch (view_trial trial.now) }
 {
-    let x = stack.top;
-    let active = Status::Active;
-    let top = with_try(x, active);
-    let next = Stack { top: top, ..stack };
-    let answer = Answer::Missed {
-        instance: x.id,
-        state: x.state,
-        branch: x.tried,
-    };
-    ends::turned(place, next, answer, altered, QueueMove::Keep)
-}
-
-// It stepped: the next state, with no branch tried.
-fn on_stepped(place: usize, stack: Stack, branch: Branch, env: Env, altered: Altered) -> Step
-    requires { stack.depth ≤ most_below }
-    ensures { Tried place stack branch (stepped env (changes_of altered)) altered result }
-{
-    let x = stack.top;
-    let top = instance::stepped_to(x, branch.next, env);
-    let next = Stack { top: top, ..stack };
-    let answer = Answer::Stepped {
-        instance: x.id,
-        state: x.state,
-        branch: x.tried,
-        next: branch.next,
-    };
-    ends::turned(place, next, answer, altered, QueueMove::Keep)
-}
-
-// It is an action: the instance waits for its outcome.
-fn on_done(place: usize, stack: Stack, branch: Branch, l: Literal, altered: Altered) -> Step
-    requires { (stack.depth ≤ most_below) × (stack.top.tried ≤ 4) }
-    ensures { Tried place stack branch (done l) altered result }
-{
-    let x = stack.top;
-    let waiting = Status::Waiting;
-    let top = with_try(x, waiting);
-    let next = Stack { top: top, ..stack };
-    let answer = Answer::Done {
-        instance: x.id,
-        state: x.state,
-        branch: x.tried,
-        literal: l,
-    };
-    ends::turned(place, next, answer, altered, QueueMove::Keep)
-}
-
-// It is a goal: the goal joins the queue, and the instance is suspended.
-fn on_posted(place: usize, stack: Stack, branch: Branch, goal: Literal, altered: Altered) -> Step
-    requires { (stack.depth ≤ most_below) × (stack.top.tried ≤ 4) }
-    ensures { Tried place stack branch (posted goal) altered result }
-{
-    let x = stack.top;
-    let origin = Origin::Goal {
-        instance: x.id,
-        state: x.state,
-        branch: x.tried,
-    };
-    let event = Event {
-        origin: origin,
-        kind: branch.kind,
-        literal: goal,
-        failed: 0,
-    };
-    let suspended = Status::Suspended;
-    let top = with_try(x, suspended);
-    let next = Stack { top: top, ..stack };
-    let answer = Answer::Posted {
-        instance: x.id,
-        state: x.state,
-        branch: x.tried,
-    };
-    ends::turned(place, next, answer, altered, QueueMove::Enqueue(event))
-}
-
-// The step for the trial of a branch.
-fn on_trial(place: usize, stack: Stack, branch: Branch, trial: Trial) -> Step
-    requires { (stack.depth ≤ most_below) × (stack.top.tried ≤ 4) }
-    ensures { Tried place stack branch (view_trial trial) trial.altered result }
-{
-    let altered = trial.altered;
-    let outcome = trial.outcome;
-    match outcome {
-        Outcome::Missed => on_missed(place, stack, branch, altered),
-        Outcome::Stepped => {
-            let env = trial.env;
-            on_stepped(place, stack, branch, env, altered)
-        }
-        Outcome::Done(l) => on_done(place, stack, branch, l, altered),
-        Outcome::Posted(goal) => on_posted(place, stack, branch, goal, altered),
+    match trial.outcome {
+        Outcome::Missed => Answer::Missed {
+            instance: x.id,
+            state: x.state,
+            branch: x.tried,
+        },
+        Outcome::Stepped => Answer::Stepped {
+            instance: x.id,
+            state: x.state,
+            branch: x.tried,
+            next: branch.next,
+        },
+        Outcome::Done(literal) => Answer::Done {
+            instance: x.id,
+            state: x.state,
+            branch: x.tried,
+            literal,
+        },
+        Outcome::Posted(_) => Answer::Posted {
+            instance: x.id,
+            state: x.state,
+            branch: x.tried,
+        },
     }
 }
 
-// The next branch of the top of a stack.
-fn try_branch(b: Beliefs, place: usize, stack: Stack, branch: Branch) -> Step
-    requires { (stack.depth ≤ most_below) × (stack.top.tried ≤ 4) }
-    ensures { TriesBranch b place stack branch result }
+// What becomes of the queue: a goal that is posted joins it.
+fn queue_after(x: Instance, branch: Branch, trial: &Trial) -> QueueMove
+    ensures { result ≡ queue_after x branch (view_trial trial.now) }
 {
-    let x = stack.top;
-    let env = x.env;
-    let height = stacks::depth_of(stack) + 1;
-    let trial = tries::attempt(b, height, env, branch);
-    on_trial(place, stack, branch, trial)
+    match trial.outcome {
+        Outcome::Posted(literal) => QueueMove::Enqueue(Event {
+            origin: Origin::Goal {
+                instance: x.id,
+                state: x.state,
+                branch: x.tried,
+            },
+            kind: branch.kind,
+            literal,
+            failed: 0,
+        }),
+        _ => QueueMove::Keep,
+    }
 }
 
 // ---- The turn
 
-// The turn of the stack at a place.
-pub(crate) fn turn(library: &[u8], b: Beliefs, place: usize, stack: Stack) -> Step
-    requires { Runnable library.now b stack }
-    ensures { Turns library.now b place stack result }
-{
-    let x = stack.top;
-    let decision = decision::next_move(library, b, x);
-    match decision {
-        Decision::Fail => ends::fail(library, b, place, stack),
-        Decision::Succeed => ends::succeed(library, b, place, stack),
-        Decision::Attempt(branch) => try_branch(b, place, stack, branch),
+impl Turn<'_> {
+    // The next branch of the top is tried.
+    fn attempt(&self, branch: Branch) -> Step
+        ensures { TriesBranch self.now.beliefs self.now.place self.now.stack branch result }
+    {
+        let x = self.stack.top;
+        let height = stacks::depth_of(self.stack) + 1;
+        let trial = tries::attempt(self.beliefs, height, x.env, branch);
+        let top = top_after(x, branch, &trial);
+        let answer = answer_to(x, branch, &trial);
+        let queue = queue_after(x, branch, &trial);
+        let next = Some(Stack { top, ..self.stack });
+        ends::ended(self.place, next, answer, trial.altered, queue)
+    }
+
+    // What the top does at its turn.
+    pub(crate) fn step(&self) -> Step
+        ensures { Turns self.now.library.now self.now.beliefs self.now.place self.now.stack result }
+    {
+        let decision = decision::next_move(self.library, self.beliefs, self.stack.top);
+        match decision {
+            Decision::Fail => self.end(Ending::Failure),
+            Decision::Succeed => self.end(Ending::Success),
+            Decision::Attempt(branch) => self.attempt(branch),
+        }
     }
 }

@@ -8,7 +8,8 @@ use lib.ListN.{length, take, drop, length-append, length-take, length-drop, leng
 use lib.Seq.{take-suc-set}
 use lib.Dec.{leb, ltb}
 use borrow.Author.Tests.{le-leb, leb-true, lt-ltb, ltb-true, ltb-false}
-use Rattle.lists.specs.Search.{all, distinct, position}
+use Rattle.std.specs.List.{list_all}
+use Rattle.lists.specs.Search.{distinct, position}
 use Rattle.lists.specs.Gap.{remove_at, close_gap}
 use Rattle.lists.proofs.BoolLaws.{by_cases, both_ways, and_parts, and_both}
 use Rattle.lists.proofs.SearchLaws.{any-position}
@@ -19,27 +20,29 @@ use Rattle.literal.specs.Literal.{is_ground, same, opposite, opposed}
 use Rattle.literal.proofs.LiteralLaws.{same_equal, same_either_way, opposite-either_way}
 use Rattle.belief.specs.declared.Beliefs.{Beliefs}
 use Rattle.belief.specs.declared.Change.{Change}
+use Rattle.belief.specs.declared.Effect.{Effect}
+use Rattle.belief.specs.declared.Effect.TheVariants.{Nothing, Impossible, Changed, Replaced}
 use Rattle.belief.specs.declared.Applied.{Applied}
 use Rattle.belief.specs.Beliefs.{most_beliefs, size, view, holds, are_sound, are_beliefs, plus, minus, fits, put, change, replay}
-use Rattle.belief.specs.Table.{append, add_by, add, remove_by, remove, is_table}
+use Rattle.belief.specs.Table.{fitted, changed, cleared, over, append, add_by, add, remove_by, remove, is_table}
 use Rattle.belief.proofs.TableSteps.{length-view, view-room}
 
 -- ---- The list
 
 -- what the rules say of the literals
-sound_parts : (beliefs : List Literal) → are_sound beliefs ≡ true → (all is_ground beliefs ≡ true) × (distinct same beliefs ≡ true) × (distinct opposed beliefs ≡ true)
+sound_parts : (beliefs : List Literal) → are_sound beliefs ≡ true → (list_all is_ground beliefs ≡ true) × (distinct same beliefs ≡ true) × (distinct opposed beliefs ≡ true)
 sound_parts beliefs h =
-    let parts = and_parts (all is_ground beliefs) _ h in
+    let parts = and_parts (list_all is_ground beliefs) _ h in
     let two = and_parts (distinct same beliefs) (distinct opposed beliefs) parts.1 in
     (parts.0, two.0, two.1)
 
-sound_both : (beliefs : List Literal) → all is_ground beliefs ≡ true → distinct same beliefs ≡ true → distinct opposed beliefs ≡ true → are_sound beliefs ≡ true
-sound_both beliefs p q r = and_both (all is_ground beliefs) _ p (and_both (distinct same beliefs) (distinct opposed beliefs) q r)
+sound_both : (beliefs : List Literal) → list_all is_ground beliefs ≡ true → distinct same beliefs ≡ true → distinct opposed beliefs ≡ true → are_sound beliefs ≡ true
+sound_both beliefs p q r = and_both (list_all is_ground beliefs) _ p (and_both (distinct same beliefs) (distinct opposed beliefs) q r)
 
 -- one more belief that is ground and not held, nor its opposite
 sound_plus : (beliefs : List Literal) (l : Literal) → are_sound beliefs ≡ true → is_ground l ≡ true → holds beliefs l ≡ false → holds beliefs (opposite l) ≡ false
     → are_sound (beliefs ++ (l ∷ [])) ≡ true
-unfolding holds all
+unfolding holds
 sound_plus beliefs l h g new free =
     let parts = sound_parts beliefs h in
     sound_both (beliefs ++ (l ∷ [])) (all-joined is_ground beliefs (l ∷ []) parts.0 (rw g))
@@ -151,11 +154,11 @@ module _ (b : Beliefs) (len : length b.items ≡ 64) where
           rw now (gap_take b.items place (size b) low (omega arith))
       go place false p = sym (remove_at-past place (view b) (omega (arith, length-view b len, ltb-false place (size b) p)))
 
-  pub remove-changed : (l : Literal) → (remove b l).changed ≡ holds (view b) l
+  pub remove-changed : (l : Literal) → changed (remove b l).effect ≡ holds (view b) l
   unfolding remove
   remove-changed l = go (holds (view b) l)
     where
-      go : (held : Bool) → (remove_by held (position (same l) (view b)) b).changed ≡ held
+      go : (held : Bool) → changed (remove_by held (position (same l) (view b)) b).effect ≡ held
       go true = refl
       go false = refl
 
@@ -179,6 +182,13 @@ module _ (b : Beliefs) (len : length b.items ≡ 64) where
 
   -- ---- An add, by whether the literal is held and whether there is room
 
+  -- it is possible and a change, and takes out what a removal took out
+  over_done : (e : Effect) → (fitted (over e) ≡ true) × ((changed (over e) ≡ true) × (cleared (over e) ≡ changed e))
+  over_done Nothing = (refl, (refl, refl))
+  over_done Impossible = (refl, (refl, refl))
+  over_done Changed = (refl, (refl, refl))
+  over_done Replaced = (refl, (refl, refl))
+
   append-view : (t : Beliefs) (l : Literal) → length t.items ≡ 64 → t.count < 64 → view (append t l) ≡ view t ++ (l ∷ [])
   append-view t l n low =
       let now : min t.count most_beliefs ≡ t.count = omega arith in
@@ -190,21 +200,21 @@ module _ (b : Beliefs) (len : length b.items ≡ 64) where
     without = remove b (opposite l)
 
     -- it fits just where the list's add does
-    pub add_fitted : (add b l).fitted ≡ fits (view b) l
+    pub add_fitted : fitted (add b l).effect ≡ fits (view b) l
     unfolding add fits
-    add_fitted = ap (λ (r : Bool). (add_by (holds (view b) l) r without b l).fitted) (remove-room (opposite l)) ∙ go (holds (view b) l) (holds (view b) (opposite l) || ltb (length (view b)) most_beliefs)
+    add_fitted = ap (λ (r : Bool). fitted (add_by (holds (view b) l) r without b l).effect) (remove-room (opposite l)) ∙ go (holds (view b) l) (holds (view b) (opposite l) || ltb (length (view b)) most_beliefs)
       where
-        go : (held room : Bool) → (add_by held room without b l).fitted ≡ (held || room)
+        go : (held room : Bool) → fitted (add_by held room without b l).effect ≡ (held || room)
         go true room = refl
         go false false = refl
-        go false true = refl
+        go false true = (over_done without.effect).0
 
     -- where it fits, the beliefs are those of the list's add
-    pub add-view : (add b l).fitted ≡ true → view (add b l).table ≡ put (view b) l
+    pub add-view : fitted (add b l).effect ≡ true → view (add b l).table ≡ put (view b) l
     unfolding add put
     add-view = go (holds (view b) l) (ltb without.table.count most_beliefs) refl refl
       where
-        go : (held room : Bool) → holds (view b) l ≡ held → ltb without.table.count most_beliefs ≡ room → (add_by held room without b l).fitted ≡ true
+        go : (held room : Bool) → holds (view b) l ≡ held → ltb without.table.count most_beliefs ≡ room → fitted (add_by held room without b l).effect ≡ true
             → view (add_by held room without b l).table ≡ put (view b) l
         go true room p q e = rw p
         go false false p q e = both_ways {b = false} e refl
@@ -213,34 +223,35 @@ module _ (b : Beliefs) (len : length b.items ≡ 64) where
             ∙ ap (λ (xs : List Literal). xs ++ (l ∷ [])) (remove-view (opposite l)) ∙ sym (put_new (view b) l p)
 
     -- where it does not fit, the table is the one given
-    pub add_unfitted : (add b l).fitted ≡ false → (add b l).table ≡ b
+    pub add_unfitted : fitted (add b l).effect ≡ false → (add b l).table ≡ b
     unfolding add
     add_unfitted = go (holds (view b) l) (ltb without.table.count most_beliefs)
       where
-        go : (held room : Bool) → (add_by held room without b l).fitted ≡ false → (add_by held room without b l).table ≡ b
+        go : (held room : Bool) → fitted (add_by held room without b l).effect ≡ false → (add_by held room without b l).table ≡ b
         go true room e = refl
         go false false e = refl
-        go false true e = both_ways {b = true} refl e
+        go false true e = both_ways (over_done without.effect).0 e
 
     -- it changes the table just where it fits and the literal is new
-    pub add-changed : (add b l).changed ≡ ((add b l).fitted && not (holds (view b) l))
+    pub add-changed : changed (add b l).effect ≡ (fitted (add b l).effect && not (holds (view b) l))
     unfolding add
     add-changed = go (holds (view b) l) (ltb without.table.count most_beliefs)
       where
-        go : (held room : Bool) → (add_by held room without b l).changed ≡ ((add_by held room without b l).fitted && not held)
+        go : (held room : Bool) → changed (add_by held room without b l).effect ≡ (fitted (add_by held room without b l).effect && not held)
         go true room = refl
         go false false = refl
-        go false true = refl
+        go false true = (over_done without.effect).1.0 ∙ sym (ap (λ (r : Bool). r && true) (over_done without.effect).0)
 
     -- and takes out the opposite just where it changes the table and that is held
-    pub add_cleared : (add b l).cleared ≡ ((add b l).changed && holds (view b) (opposite l))
+    pub add_cleared : cleared (add b l).effect ≡ (changed (add b l).effect && holds (view b) (opposite l))
     unfolding add
     add_cleared = go (holds (view b) l) (ltb without.table.count most_beliefs)
       where
-        go : (held room : Bool) → (add_by held room without b l).cleared ≡ ((add_by held room without b l).changed && holds (view b) (opposite l))
+        go : (held room : Bool) → cleared (add_by held room without b l).effect ≡ (changed (add_by held room without b l).effect && holds (view b) (opposite l))
         go true room = refl
         go false false = refl
-        go false true = remove-changed (opposite l)
+        go false true =
+            (over_done without.effect).1.1 ∙ remove-changed (opposite l) ∙ sym (ap (λ (r : Bool). r && holds (view b) (opposite l)) (over_done without.effect).1.0)
 
     pub add-few : b.count ≤ 64 → (add b l).table.count ≤ 64
     unfolding add
@@ -288,7 +299,7 @@ module _ (b : Beliefs) (len : length b.items ≡ 64) (h : is_table b ≡ true) w
 
   -- adding a ground literal keeps the rules
   pub add-table : (l : Literal) → is_ground l ≡ true → is_table (add b l).table ≡ true
-  add-table l g = by_cases (add b l).fitted
+  add-table l g = by_cases (fitted (add b l).effect)
       (λ e. table-both (add b l).table (add-few b len l few)
       (ap are_beliefs (add-view b len l e) ∙ put_beliefs (view b) l (table-parts b len h).1 g (sym (add_fitted b len l) ∙ e)))
       (λ e. ap is_table (add_unfitted b len l e) ∙ h)

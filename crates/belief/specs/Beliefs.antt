@@ -2,7 +2,8 @@
 -- Departs from dMARS: a list with an order and at most 64 members, not a set.
 use Rattle.std.specs.Prelude.{ℕ, min, Bool, cond, ◌&&◌, ◌||◌, length, take, leb, ltb}
 use mathlib.Core.List.{List, [], ◌∷◌, ◌++◌, foldl}
-use Rattle.lists.specs.Search.{any, all, distinct, position}
+use Rattle.std.specs.List.{list_any, list_all}
+use Rattle.lists.specs.Search.{distinct, position}
 use Rattle.lists.specs.Gap.{remove_at}
 use Rattle.literal.specs.declared.Literal.{Literal}
 use Rattle.literal.specs.Literal.{is_ground, same, opposite, opposed}
@@ -26,11 +27,11 @@ view table = take (size table) table.items
 
 -- the literal is a belief
 unfoldable pub holds : List Literal → Literal → Bool
-holds beliefs l = any (same l) beliefs
+holds beliefs l = list_any (same l) beliefs
 
 -- all ground, all different, no opposites
 abbrev pub are_sound : List Literal → Bool
-are_sound beliefs = all is_ground beliefs && (distinct same beliefs && distinct opposed beliefs)
+are_sound beliefs = list_all is_ground beliefs && (distinct same beliefs && distinct opposed beliefs)
 
 -- at most 64, all ground, all different, no opposites
 unfoldable pub are_beliefs : List Literal → Bool

@@ -6,9 +6,11 @@ use mathlib.Core.Bool.{true, false}
 use mathlib.Core.List.{List, [], ◌∷◌, ◌++◌, map, map-append, reverse, reverse-cons}
 use lib.Dec.{leb}
 use lib.ListN.{length, length-append, take, drop, length-take}
-use lib.Seq.{take_at, sets}
-use borrow.Author.Tests.{ne_eqb, le-leb, lt-leb, leb-true}
-use Rattle.lists.specs.Search.{all}
+use lib.Seq.{take_at}
+use borrow.Author.Tests.{le-leb, lt-leb, leb-true}
+use Rattle.std.specs.Prelude.{Ok, Err}
+use Rattle.std.specs.List.{list_all}
+use Rattle.refusals.specs.declared.Refusal.{Refusal}
 use Rattle.lists.specs.Counts.{each}
 use Rattle.lists.proofs.BoolLaws.{by_cases, and_parts}
 use Rattle.library.specs.Layout.{library_of}
@@ -23,11 +25,9 @@ use Rattle.jobs.proofs.FlatLaws.{live-few}
 use Rattle.formed.proofs.WellFormedLaws.{test_parts}
 use Rattle.load.specs.declared.Agent.{Agent}
 use Rattle.load.specs.Load.{bytes_of, is_well_formed_agent}
-use Rattle.writing.specs.Writing.{Wrote}
-use Rattle.writing.proofs.WritingLaws.{nothing, widen, whole}
-use Rattle.board.specs.declared.Printed.{Printed}
+use Rattle.writing.proofs.WritingLaws.{whole}
 use Rattle.board.specs.Page.{line_bytes, rows_on, rows_from, rows_of, page_of}
-use Rattle.board.specs.Board.{rows_of_agent, board_of, most_board, board_refusal, written_of, Boards}
+use Rattle.board.specs.Board.{rows_of_agent, board_of, most_board, board_refusal, Boards}
 use Rattle.board.proofs.PageLaws.{length-rows}
 use Rattle.board.proofs.FitLaws.{is_fitting, stacks_fit}
 use Rattle.board.proofs.InjectiveLaws.{length-lines, lines_same}
@@ -61,7 +61,7 @@ rows-shown number external (x ∷ below) =
 
 module _ (a : Agent) (formed : is_well_formed_agent a ≡ true) where
   -- no field is cut
-  pub rows_fit : all is_fitting (rows_of_agent a) ≡ true
+  pub rows_fit : list_all is_fitting (rows_of_agent a) ≡ true
   unfolding is_well_formed are_instances
   rows_fit =
       let w = test_parts a.library a.length a.state formed in
@@ -71,8 +71,8 @@ module _ (a : Agent) (formed : is_well_formed_agent a ≡ true) where
       let made = and_parts (leb s.made most_number) _ taken.1 in
       let instances = and_parts (are_instances library s.made (live s.stacks)) _ (and_parts (are_events library s.taken s.queue) _ made.1).1 in
       let few = and_parts (leb (length s.stacks) most_stacks) _ instances.1 in
-      let stacks = (and_parts (all is_stack s.stacks) _ few.1).0 in
-      let sound = (and_parts (all (is_instance library s.made) (live s.stacks)) _ instances.0).0 in
+      let stacks = (and_parts (list_all is_stack s.stacks) _ few.1).0 in
+      let sound = (and_parts (list_all (is_instance library s.made) (live s.stacks)) _ instances.0).0 in
       let small = leb-true (length s.stacks) most_stacks few.0 in
       stacks_fit (bytes_of a) w.accepted s.made (leb-true s.made most_number made.0) 1 s.stacks (omega (arith, small)) stacks sound
 
@@ -103,55 +103,43 @@ room_enough a room formed enough =
 pub page_room : (s : State) (lines room : ℕ) → lines ≡ length (live (view_stacks s)) → line_bytes * lines ≤ room → line_bytes * length (rows_of (view_stacks s)) ≤ room
 page_room s lines room all_lines enough = omega (arith, rows-live 1 (view_stacks s))
 
-pub unformed : (a : Agent) (bytes : List ℕ) → is_well_formed_agent a ≡ false → Boards a bytes bytes (record { refusal = 10; size = 0 })
-unfolding board_refusal written_of
-unformed a bytes ill = record { number = rw ill; page = rw ill (widen (omega arith) nothing) }
-
 module _ (a : Agent) (formed : is_well_formed_agent a ≡ true) (lines : ℕ) (all_lines : lines ≡ length (live (view_stacks a.state))) where
-  pub short : (bytes : List ℕ) → length bytes < line_bytes * lines → Boards a bytes bytes (record { refusal = 14; size = 0 })
-  unfolding board_refusal written_of
+  pub short : (bytes : List ℕ) → length bytes < line_bytes * lines → 14 ≡ board_refusal a (length bytes)
+  unfolding board_refusal
   short bytes less =
       let less-room : leb (length (board_of a)) (length bytes) ≡ false = lt-leb (length (board_of a)) (length bytes) (omega (arith, board-length a formed)) in
-      record { number = rw (formed, less-room); page = rw (formed, less-room) (widen (omega arith) nothing) }
+      rw (formed, less-room)
 
-  pub printed : {before after : List ℕ} {size : ℕ} → line_bytes * lines ≤ length before
-      → Wrote (length before) before after 0 size (board_of a) → Boards a before after (record { refusal = 0; size = size })
-  unfolding board_refusal written_of
-  printed {before} room page =
-      let enough : leb (length (board_of a)) (length before) ≡ true = le-leb (length (board_of a)) (length before) (omega (arith, board-length a formed)) in
-      record { number = rw (formed, enough); page = rw (formed, enough) page }
+  pub enough : (bytes : List ℕ) → line_bytes * lines ≤ length bytes → board_refusal a (length bytes) ≡ 0
+  unfolding board_refusal
+  enough bytes room =
+      let fits : leb (length (board_of a)) (length bytes) ≡ true = le-leb (length (board_of a)) (length bytes) (omega (arith, board-length a formed)) in
+      rw (formed, fits)
 
 -- ---- What the contract says, place by place
 
-module _ (a : Agent) (before after : List ℕ) (r : Printed) (boards : Boards a before after r) where
+module _ (a : Agent) (before after : List ℕ) where
   -- an accepted call writes the board of a well-formed agent, and every byte past it is as it was
-  pub accepted : r.refusal ≡ 0 → (is_well_formed_agent a ≡ true) × (r.size ≡ length (board_of a)) × (after ≡ board_of a ++ drop r.size before)
-  unfolding board_refusal written_of
-  accepted none =
-      let number : 0 ≡ board_refusal a (length before) = sym none ∙ boards.number in
-      let text : written_of a (length before) ≡ board_of a = rw (← number) in (
-        by_cases (is_well_formed_agent a) (λ (formed : is_well_formed_agent a ≡ true). formed)
-            (λ (ill : is_well_formed_agent a ≡ false). let ten : ◌≡◌ {A = ℕ} 0 10 = number ∙ rw ill in absurd (omega arith)),
-        omega (arith, boards.page.past, ap length text),
-        whole (omega arith) boards.page ∙ ap (λ (l : List ℕ). l ++ drop r.size before) text,
-      )
+  pub accepted : (n : ℕ) → Boards a before after (Ok n)
+      → (is_well_formed_agent a ≡ true) × (n ≡ length (board_of a)) × (after ≡ board_of a ++ drop n before)
+  unfolding board_refusal
+  accepted n shown = (
+    by_cases (is_well_formed_agent a) (λ (formed : is_well_formed_agent a ≡ true). formed)
+        (λ (ill : is_well_formed_agent a ≡ false). let ten : ◌≡◌ {A = ℕ} 0 10 = sym shown.accepted ∙ rw ill in absurd (omega arith)),
+    omega (arith, shown.page.past),
+    whole (omega arith) shown.page,
+  )
 
   -- a refused one writes nothing
-  pub refused : (r.refusal ≡ 0 → ⊥) → (r.size ≡ 0) × (after ≡ before)
-  unfolding written_of
-  refused some =
-      let other : (board_refusal a (length before) ≡ 0 → ⊥) = λ (none : board_refusal a (length before) ≡ 0). some (boards.number ∙ none) in
-      let text : written_of a (length before) ≡ [] = rw (ne_eqb (board_refusal a (length before)) 0 other) in
-      (omega (arith, boards.page.past, ap length text), boards.page.bytes ∙ ap (sets before 0) text)
+  pub refused : (e : Refusal) → Boards a before after (Err e) → after ≡ before
+  refused e unshown = unshown.unwritten
 
 -- what two accepted calls wrote is the same only where every line shows the same
-pub written_differ : (a b : Agent) (before after before' after' : List ℕ) (r q : Printed) → Boards a before after r → Boards b before' after' q
-    → r.refusal ≡ 0 → q.refusal ≡ 0 → take r.size after ≡ take q.size after' → rows_of_agent a ≡ rows_of_agent b
-written_differ a b before after before' after' r q p s none none' same =
-    let first = accepted a before after r p none in
-    let second = accepted b before' after' q s none' in
-    let one : take r.size after ≡ board_of a
-    = ap (take r.size) first.2 ∙ take_at (board_of a) (drop r.size before) r.size (sym first.1) in
-    let other : take q.size after' ≡ board_of b
-    = ap (take q.size) second.2 ∙ take_at (board_of b) (drop q.size before') q.size (sym second.1) in
+pub written_differ : (a b : Agent) (before after before' after' : List ℕ) (m n : ℕ) → Boards a before after (Ok m)
+    → Boards b before' after' (Ok n) → take m after ≡ take n after' → rows_of_agent a ≡ rows_of_agent b
+written_differ a b before after before' after' m n r q same =
+    let first = accepted a before after m r in
+    let second = accepted b before' after' n q in
+    let one : take m after ≡ board_of a = ap (take m) first.2 ∙ take_at (board_of a) (drop m before) m (sym first.1) in
+    let other : take n after' ≡ board_of b = ap (take n) second.2 ∙ take_at (board_of b) (drop n before') n (sym second.1) in
     boards_differ a b first.0 second.0 (sym one ∙ same ∙ other)

@@ -7,7 +7,7 @@ use mathlib.Core.List.{List, [], ◌∷◌, ◌++◌, map}
 use lib.Dec.{ltb, leb}
 use lib.ListN.{length, get_or}
 use borrow.Author.Tests.{ltb-true, leb-true, le-leb}
-use Rattle.lists.specs.Search.{all}
+use Rattle.std.specs.List.{list_all}
 use Rattle.lists.specs.Counts.{each}
 use Rattle.lists.proofs.BoolLaws.{by_cases, and_parts, and_both}
 use Rattle.lists.proofs.TestLaws.{all-joined}
@@ -40,30 +40,28 @@ entry-fits term =
     (λ (e : is_constant term ≡ true). rw e (number_fits 4 term (omega (arith, ltb-true term 65528 e))))
     (λ (e : is_constant term ≡ false). rw e refl)
 
-entries_fit : (terms : List ℕ) → all fits (map entry terms) ≡ true
-unfolding all
+entries_fit : (terms : List ℕ) → list_all fits (map entry terms) ≡ true
 entries_fit [] = refl
-entries_fit (t ∷ terms) = and_both (fits (entry t)) (all fits (map entry terms)) (entry-fits t) (entries_fit terms)
+entries_fit (t ∷ terms) = and_both (fits (entry t)) (list_all fits (map entry terms)) (entry-fits t) (entries_fit terms)
 
 -- ---- A row
 
 -- every field fits, and every variable has an entry
 abbrev pub is_fitting : Row → Bool
-is_fitting row = all fits (fields_of row) && is_env row.instance.env
+is_fitting row = list_all fits (fields_of row) && is_env row.instance.env
 
-all-parts : {A : Type 0} (test : A → Bool) (xs ys : List A) → all test (xs ++ ys) ≡ true → (all test xs ≡ true) × (all test ys ≡ true)
-unfolding all
+all-parts : {A : Type 0} (test : A → Bool) (xs ys : List A) → list_all test (xs ++ ys) ≡ true → (list_all test xs ≡ true) × (list_all test ys ≡ true)
 all-parts test [] ys e = (refl, e)
 all-parts test (x ∷ xs) ys e =
-    let first = and_parts (test x) (all test (xs ++ ys)) e in
+    let first = and_parts (test x) (list_all test (xs ++ ys)) e in
     let rest = all-parts test xs ys first.1 in
-    (and_both (test x) (all test xs) first.0 rest.0, rest.1)
+    (and_both (test x) (list_all test xs) first.0 rest.0, rest.1)
 
 module _ (bytes : List ℕ) (accepted : Accepted bytes) (made : ℕ) (few : made ≤ most_number) where
   module _ (number height : ℕ) (x : Instance) (low : number < 10) (near : height < 10) (within : is_within made x.id ≡ true)
       (sound : is_sound (library_of bytes) x ≡ true) where
     row_fits : is_fitting (record { stack = number; height = height; instance = x }) ≡ true
-    unfolding fields_of all is_sound branches_of
+    unfolding fields_of is_sound branches_of
     row_fits =
         let library = library_of bytes in
         let id = leb-true x.id made (and_parts (leb 1 x.id) (leb x.id made) within).1 in
@@ -95,26 +93,26 @@ module _ (bytes : List ℕ) (accepted : Accepted bytes) (made : ℕ) (few : made
   abbrev is_live : Job → Bool
   is_live = is_instance (library_of bytes) made
 
-  rows_fit : (number external : ℕ) (xs : List Instance) → number < 10 → length xs < 10 → all is_live (jobs_on external xs) ≡ true
-      → all is_fitting (rows_on number xs) ≡ true
-  unfolding rows_on jobs_on all is_instance
+  rows_fit : (number external : ℕ) (xs : List Instance) → number < 10 → length xs < 10 → list_all is_live (jobs_on external xs) ≡ true
+      → list_all is_fitting (rows_on number xs) ≡ true
+  unfolding rows_on jobs_on is_instance
   rows_fit number external [] low near e = refl
   rows_fit number external (x ∷ below) low near e =
-      let parts = and_parts _ (all is_live (jobs_on external below)) e in
+      let parts = and_parts _ (list_all is_live (jobs_on external below)) e in
       let this = and_parts (is_within made x.id) _ parts.0 in
       all-joined is_fitting (rows_on number below) _ (rows_fit number external below low (omega arith) parts.1)
       (and_both _ true (row_fits number (suc (length below)) x low near this.0 this.1) refl)
 
   -- ---- All stacks
 
-  pub stacks_fit : (number : ℕ) (stacks : List Intention) → number + length stacks < 10 → all is_stack stacks ≡ true → all is_live (live stacks) ≡ true
-      → all is_fitting (rows_from number stacks) ≡ true
-  unfolding rows_from live all is_stack
+  pub stacks_fit : (number : ℕ) (stacks : List Intention) → number + length stacks < 10 → list_all is_stack stacks ≡ true → list_all is_live (live stacks) ≡ true
+      → list_all is_fitting (rows_from number stacks) ≡ true
+  unfolding rows_from live is_stack
   stacks_fit number [] room formed e = refl
   stacks_fit number (stack ∷ stacks) room formed e =
       let jobs = all-parts is_live (jobs_of stack) (each jobs_of stacks) e in
-      let first = and_parts (is_stack stack) (all is_stack stacks) formed in
-      let rules = and_parts (all (λ x. is_suspended x.status) stack.below) _ first.0 in
+      let first = and_parts (is_stack stack) (list_all is_stack stacks) formed in
+      let rules = and_parts (list_all (λ x. is_suspended x.status) stack.below) _ first.0 in
       let height = leb-true (height_of stack) most_height (and_parts (leb (height_of stack) most_height) _ rules.1).0 in
       all-joined is_fitting (rows_on number (stack.top ∷ stack.below)) (rows_from (suc number) stacks)
       (rows_fit number stack.external (stack.top ∷ stack.below) (omega arith) (omega (arith, height)) jobs.0)

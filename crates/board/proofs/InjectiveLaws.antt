@@ -8,7 +8,7 @@ use mathlib.Core.List.{List, [], ◌∷◌, ◌++◌, map, append_assoc}
 use lib.Dec.{eqb, lit<}
 use lib.ListN.{length, length-append, get_or, get_or-map, drop, replicate}
 use borrow.Author.Tests.{eqb-true, leb-true}
-use Rattle.lists.specs.Search.{all}
+use Rattle.std.specs.List.{list_all}
 use Rattle.lists.specs.Counts.{each, total}
 use Rattle.lists.proofs.BoolLaws.{and_parts}
 use Rattle.lists.proofs.AllLaws.{all_at}
@@ -120,7 +120,7 @@ eight row = length row.instance.env.terms ≡ 8
 fitting_env : (row : Row) → is_fitting row ≡ true → eight row × (are_entries first_variable row.instance.env.terms ≡ true)
 unfolding is_env
 fitting_env row f =
-    let env = (and_parts (all fits (fields_of row)) _ f).1 in
+    let env = (and_parts (list_all fits (fields_of row)) _ f).1 in
     let parts = and_parts (eqb (length row.instance.env.terms) 8) _ env in
     (eqb-true _ 8 parts.0, parts.1)
 
@@ -154,7 +154,7 @@ length-line row f =
 
 field_fits : (row : Row) → is_fitting row ≡ true → (i : ℕ) → i < 7 → fits (get_or (fields_of row) i (letter Active)) ≡ true
 unfolding fields_of
-field_fits row f i low = all_at fits (fields_of row) i (letter Active) (and_parts (all fits (fields_of row)) _ f).0 (omega arith)
+field_fits row f i low = all_at fits (fields_of row) i (letter Active) (and_parts (list_all fits (fields_of row)) _ f).0 (omega arith)
 
 module _ (r q : Row) (f : is_fitting r ≡ true) (g : is_fitting q ≡ true) where
   line-fields : line_text r ≡ line_text q → map aligned (fields_of r) ≡ map aligned (fields_of q)
@@ -196,22 +196,20 @@ module _ (r q : Row) (f : is_fitting r ≡ true) (g : is_fitting q ≡ true) whe
 -- ---- A page
 
 -- 73 bytes for each row
-pub length-lines : (rows : List Row) → all is_fitting rows ≡ true → length (each line_text rows) ≡ line_bytes * length rows
-unfolding all
+pub length-lines : (rows : List Row) → list_all is_fitting rows ≡ true → length (each line_text rows) ≡ line_bytes * length rows
 length-lines [] f = refl
 length-lines (r ∷ rows) f =
-    let parts = and_parts (is_fitting r) (all is_fitting rows) f in
+    let parts = and_parts (is_fitting r) (list_all is_fitting rows) f in
     length-append (line_text r) (each line_text rows) ∙ rw mul-suc (omega (arith, length-line r parts.0, length-lines rows parts.1))
 
-pub lines_same : (rs qs : List Row) → all is_fitting rs ≡ true → all is_fitting qs ≡ true → each line_text rs ≡ each line_text qs → rs ≡ qs
-unfolding all
+pub lines_same : (rs qs : List Row) → list_all is_fitting rs ≡ true → list_all is_fitting qs ≡ true → each line_text rs ≡ each line_text qs → rs ≡ qs
 lines_same [] [] f g e = refl
 lines_same [] (q ∷ qs) f g e =
     absurd (omega (arith, ap length e, length-append (line_text q) (each line_text qs), length-line q (and_parts (is_fitting q) _ g).0))
 lines_same (r ∷ rs) [] f g e =
     absurd (omega (arith, ap length e, length-append (line_text r) (each line_text rs), length-line r (and_parts (is_fitting r) _ f).0))
 lines_same (r ∷ rs) (q ∷ qs) f g e =
-    let a = and_parts (is_fitting r) (all is_fitting rs) f in
-    let b = and_parts (is_fitting q) (all is_fitting qs) g in
+    let a = and_parts (is_fitting r) (list_all is_fitting rs) f in
+    let b = and_parts (is_fitting q) (list_all is_fitting qs) g in
     let parts = cut (line_text r) (line_text q) (each line_text rs) (each line_text qs) (length-line r a.0 ∙ sym (length-line q b.0)) e in
     ap₂ (λ (h : Row) (t : List Row). h ∷ t) (line_same r q a.0 b.0 parts.0) (lines_same rs qs a.1 b.1 parts.1)

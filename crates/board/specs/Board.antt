@@ -1,11 +1,12 @@
 -- What printing the board does (document 02, request 9): 10 where the agent is not well formed, then 14 where the buffer is too short.
-use Rattle.std.specs.Prelude.{ℕ, ◌≡◌, cond, List, [], eqb, leb, length}
+use Rattle.std.specs.Prelude.{ℕ, ◌≡◌, List, leb, length, Result, MatchResult}
+use Rattle.refusals.specs.declared.Refusal.{Refusal}
+use Rattle.refusals.specs.Numbers.{number_of}
 use Rattle.accepted.specs.Refusal.{stage}
 use Rattle.writing.specs.Writing.{Wrote}
 use Rattle.state.specs.View.{view_stacks}
 use Rattle.load.specs.declared.Agent.{Agent}
 use Rattle.load.specs.Load.{is_well_formed_agent}
-use Rattle.board.specs.declared.Printed.{Printed}
 use Rattle.board.specs.Page.{Row, rows_of, page_of}
 
 -- what the lines of an agent's board show
@@ -24,11 +25,16 @@ most_board = 4672
 unfoldable pub board_refusal : Agent → ℕ → ℕ
 board_refusal a room = stage 10 (is_well_formed_agent a) (stage 14 (leb (length (board_of a)) room) 0)
 
--- what is written into it: the board, or nothing where it is refused
-unfoldable pub written_of : Agent → ℕ → List ℕ
-written_of a room = cond (eqb (board_refusal a room) 0) (board_of a) []
+-- the board stands in the first n bytes, and every other byte is as it was
+pub record Shown (a : Agent) (before after : List ℕ) (n : ℕ) : Type 0 where
+  pub accepted : board_refusal a (length before) ≡ 0
+  pub page : Wrote (length before) before after 0 n (board_of a)
 
-pub record Boards (a : Agent) (before after : List ℕ) (r : Printed) : Type 0 where
-  pub number : r.refusal ≡ board_refusal a (length before)
-  -- it stands in the first `size` bytes, and every other byte is as it was
-  pub page : Wrote (length before) before after 0 r.size (written_of a (length before))
+-- a refusal writes nothing: every byte is as it was
+pub record Unshown (a : Agent) (before after : List ℕ) (e : Refusal) : Type 0 where
+  pub number : number_of e ≡ board_refusal a (length before)
+  pub unwritten : after ≡ before
+
+-- how many bytes were written, or the refusal
+abbrev pub Boards : Agent → List ℕ → List ℕ → Result ℕ Refusal → Type 0
+Boards a before after r = MatchResult r (Shown a before after) (Unshown a before after)

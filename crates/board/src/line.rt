@@ -6,7 +6,7 @@ ghost use Rattle.board.specs.Page.{status_letter, number, letter, entry, aligned
 
 use crate::columns::{put, put_after, put_number};
 use literal::{FIRST_VARIABLE, VARIABLES};
-use model::{Instance, Number, Status};
+use model::{Instance, Status};
 
 // How many columns an id has, a plan or a state, and a variable.
 const ID: usize = 10;
@@ -16,6 +16,9 @@ const PLAN: usize = 2;
 const STATE: usize = 2;
 
 const ENTRY: usize = 5;
+
+// What stands for an entry where nothing is bound, with the space before it.
+const UNBOUND: [u8; 6] = *b"     -";
 
 // How many bytes a line has: 72 characters and a newline.
 pub(crate) const LINE_BYTES: usize = 73;
@@ -49,13 +52,6 @@ fn put_status(out: &mut [u8], at: usize, status: Status) -> usize
     put(out, a, byte)
 }
 
-// An instance's number, as wide as its columns.
-fn wide(n: Number) -> u32
-    ensures { result ≡ n }
-{
-    n as u32
-}
-
 // How far an instance has come: its id, plan, state, tried branches and status, a space before each.
 fn put_progress(out: &mut [u8], at: usize, x: Instance) -> usize
     requires { at + 21 ≤ length out.old }
@@ -63,8 +59,7 @@ fn put_progress(out: &mut [u8], at: usize, x: Instance) -> usize
         (number 10 x.id ∷ number 2 x.plan ∷ number 2 x.state ∷ number 1 x.tried ∷ letter x.status ∷ [])) }
 {
     let status = x.status;
-    let id = wide(x.id);
-    let a = put_after(out, at, ID, id);
+    let a = put_after(out, at, ID, x.id);
     let b = put_after(out, a, PLAN, x.plan as u32);
     let c = put_after(out, b, STATE, x.state as u32);
     let d = put_after(out, c, 1, x.tried as u32);
@@ -76,12 +71,9 @@ fn put_unbound(out: &mut [u8], at: usize) -> usize
     requires { at + 6 ≤ length out.old }
     ensures { Wrote 6 out.old out.new at result (32 ∷ 32 ∷ 32 ∷ 32 ∷ 32 ∷ 45 ∷ []) }
 {
-    let a = put(out, at, b' ');
-    let b = put(out, a, b' ');
-    let c = put(out, b, b' ');
-    let d = put(out, c, b' ');
-    let e = put(out, d, b' ');
-    put(out, e, b'-')
+    let next = at + UNBOUND.len();
+    out[at..next].copy_from_slice(&UNBOUND);
+    next
 }
 
 // A space and a variable's entry.
@@ -101,10 +93,8 @@ fn put_entries(out: &mut [u8], at: usize, terms: [u16; VARIABLES]) -> usize
     ensures { Wrote 48 out.old out.new at result (each after (map entry terms)) }
 {
     let mut o = at;
-    let mut i: usize = 0;
-    while i < VARIABLES {
-        o = put_entry(out, o, terms[i]);
-        i += 1;
+    for term in &terms {
+        o = put_entry(out, o, *term);
     }
     o
 }

@@ -18,11 +18,8 @@ fn put_stack(out: &mut [u8], at: usize, number: u32, stack: Stack) -> usize
     let n = depth_of(stack);
     let top = stack.top;
     let mut o = at;
-    let mut i: usize = 0;
-    while i < n {
-        let x = stack.below[i];
-        i += 1;
-        o = put_line(out, o, number, i as u32, x);
+    for i in 0..n {
+        o = put_line(out, o, number, (i + 1) as u32, stack.below[i]);
     }
     put_line(out, o, number, (n + 1) as u32, top)
 }
@@ -34,11 +31,8 @@ pub(crate) fn put_page(out: &mut [u8], s: State) -> usize
 {
     let n = stacked_of(s);
     let mut o: usize = 0;
-    let mut done: usize = 0;
-    while done < n {
-        let stack = s.stacks[done];
-        done += 1;
-        o = put_stack(out, o, done as u32, stack);
+    for done in 0..n {
+        o = put_stack(out, o, (done + 1) as u32, s.stacks[done]);
     }
     o
 }

@@ -1,44 +1,41 @@
 // The lines of standard input, each answered.
-use crate::output::print_first;
-use crate::streams::Streams;
-use dialogue::Dialogue;
+use crate::host::Host;
+use crate::stop::Failed;
 use load::Agent;
+use std::io;
 use std::rt::Clock;
-use transfer::why::say_why;
 
-// Every line, answered before more input is waited for; ended tells that the input has, with every answer written.
-// A proved loop has to end, so it counts its turns down from a number that no run uses up.
-pub(crate) fn answer_all<C: Clock>(
-    clock: &C,
-    streams: Streams,
-    agent: Agent,
+// What is said of standard input.
+const INPUT: &str = "canarystand: standard input";
+
+// Every line, answered before more input is waited for.
+// A proved loop has to end, so its turns have a number that no run uses up.
+pub(crate) fn answer_all<R: Clock>(
+    host: &Host<'_, R>,
+    agent: &mut Agent,
     input: &mut [u8],
     out: &mut [u8],
-) -> Dialogue {
-    let mut stdin = streams.input;
-    let mut d = dialogue::begin(agent);
+) -> Result<(), Failed> {
+    let mut stdin = host.input;
+    let mut d = dialogue::begin(*agent);
     let mut n: usize = 0;
-    let mut turns = u64::MAX;
-    while turns > 0 && !d.ended {
-        turns -= 1;
+    for _ in 0..u64::MAX {
+        if d.ended {
+            *agent = d.agent;
+            return Ok(());
+        }
         if d.used {
-            let mut error = None;
-            let got = transfer::read_some(clock, &mut stdin, input, &mut error);
-            if got.failed {
-                let mut errors = streams.errors;
-                say_why(&mut errors, b"canarystand: standard input", error.unwrap());
-                return d;
-            }
-            n = got.count;
+            let read = transfer::read_some(host.rt, &mut stdin, input);
+            n = read.map_err(|error| Failed { what: INPUT, error })?;
             d.at = 0;
             d.used = false;
-            continue;
-        }
-        d = dialogue::answer(d, &input[..n], out);
-        if !print_first(clock, streams, d.wrote, out) {
-            d.ended = false;
-            return d;
+        } else {
+            d = dialogue::answer(d, &input[..n], out);
+            host.print(&out[..d.wrote])?;
         }
     }
-    d
+    Err(Failed {
+        what: INPUT,
+        error: io::Error::from(io::ErrorKind::TimedOut),
+    })
 }

@@ -1,97 +1,56 @@
 // The agent that a mode starts with.
-ghost use Rattle.transfer.specs.Counts.{IsPrefixLen};
+ghost use Rattle.std.specs.Prelude.{◌≤◌, length, IfOk};
 
-use crate::output::print_refusal;
-use crate::streams::Streams;
-use load::{Agent, Loaded};
+use crate::host::Host;
+use crate::stop::{Failed, Stop};
+use load::Agent;
+use refusals::Refusal;
 use std::rt::{Clock, Files};
 use transfer::file;
-use transfer::file::Content;
-
-// The refusal of a library file that fills the buffer, whatever it holds.
-pub(crate) const TOO_LONG: u16 = 2;
-
-// The agent, and whether there is one.
-#[derive(Clone, Copy)]
-pub(crate) struct Start {
-    pub agent: Agent,
-    pub goes_on: bool,
-}
 
 // How many bytes of the file are in the buffer; a file that is missing or cannot be read counts as empty.
-pub(crate) fn read_library<R: Files + Clock>(rt: &R, streams: Streams, buf: &mut [u8]) -> usize
-    ensures { IsPrefixLen result buf.new }
+// One that fills the buffer is too long for a library, whatever it holds.
+pub(crate) fn read_library<R: Files + Clock>(
+    host: &Host<'_, R>,
+    buf: &mut [u8],
+) -> Result<usize, Stop>
+    ensures { IfOk result (λ n. n ≤ length buf.new) }
 {
-    let mut errors = streams.errors;
-    let content = file::read_file(
-        rt,
-        &mut errors,
-        b"library",
-        b"canarystand: library counts as missing",
-        buf,
-    );
-    let Content::Bytes(n) = content else {
-        return 0;
-    };
-    n
-}
-
-// The agent that was loaded; a refusal is printed.
-fn started<C: Clock>(clock: &C, streams: Streams, loaded: Loaded, out: &mut [u8]) -> Start {
-    let agent = loaded.agent;
-    let accepted = loaded.refusal == 0;
-    if !accepted {
-        print_refusal(clock, streams, loaded.refusal, out);
-    }
-    Start {
-        agent: agent,
-        goes_on: accepted,
-    }
-}
-
-// No agent, since the image cannot be read: no bytes make none.
-fn no_start() -> Start {
-    let nothing = load::load(b"");
-    let agent = nothing.agent;
-    Start {
-        agent: agent,
-        goes_on: false,
+    match file::read_file(host.rt, b"library", buf) {
+        Ok(Some(n)) if n == buf.len() => Err(Stop::Refused(Refusal::Packing)),
+        Ok(Some(n)) => Ok(n),
+        Ok(None) => Ok(0),
+        Err(error) => {
+            host.say(Failed {
+                what: "canarystand: library counts as missing",
+                error,
+            });
+            Ok(0)
+        }
     }
 }
 
 // From the file `library`.
 pub(crate) fn from_library<R: Files + Clock>(
-    rt: &R,
-    streams: Streams,
+    host: &Host<'_, R>,
     buf: &mut [u8],
-    out: &mut [u8],
-) -> Start {
-    let n = read_library(rt, streams, buf);
-    if n == buf.len() {
-        return started(rt, streams, load::refused(TOO_LONG), out);
-    }
-    started(rt, streams, load::load(&buf[..n]), out)
+) -> Result<Agent, Stop> {
+    let n = read_library(host, buf)?;
+    Ok(load::load(&buf[..n])?)
 }
 
 // From the file `image`, or from `library` where there is no image. A file that fills the buffer is longer than any image.
 // One that is there and cannot be read is not taken for missing: the shift's end would overwrite it.
 pub(crate) fn from_image<R: Files + Clock>(
-    rt: &R,
-    streams: Streams,
+    host: &Host<'_, R>,
     buf: &mut [u8],
-    out: &mut [u8],
-) -> Start {
-    let mut errors = streams.errors;
-    let content = file::read_file(
-        rt,
-        &mut errors,
-        b"image",
-        b"canarystand: image cannot be read",
-        buf,
-    );
-    match content {
-        Content::Bytes(n) => started(rt, streams, image::restore::restore(&buf[..n]), out),
-        Content::Missing => from_library(rt, streams, buf, out),
-        Content::Unreadable => no_start(),
+) -> Result<Agent, Stop> {
+    match file::read_file(host.rt, b"image", buf) {
+        Ok(Some(n)) => Ok(image::restore::restore(&buf[..n])?),
+        Ok(None) => from_library(host, buf),
+        Err(error) => Err(Stop::Failed(Failed {
+            what: "canarystand: image cannot be read",
+            error,
+        })),
     }
 }

@@ -1,5 +1,5 @@
 // The words behind the program's name.
-ghost use Rattle.transfer.specs.Counts.{IsPrefixLen};
+ghost use Rattle.std.specs.Prelude.{◌≤◌, length};
 
 use command::Mode;
 use std::env::FillError;
@@ -10,22 +10,19 @@ const MOST_WORD: usize = 16;
 
 // How many words there are, the program's own name among them.
 fn word_count<R: Env>(rt: &R) -> usize {
-    for i in 0..usize::MAX {
-        if let Err(FillError::NotPresent) = rt.arg(i, &mut []) {
-            return i;
-        }
-    }
-    usize::MAX
+    (0..usize::MAX)
+        .find(|i| matches!(rt.arg(*i, &mut []), Err(FillError::NotPresent)))
+        .unwrap_or(usize::MAX)
 }
 
 // The word's bytes are the first so many; one that is missing or too long is empty.
 fn word<R: Env>(rt: &R, i: usize, buf: &mut [u8]) -> usize
-    ensures { IsPrefixLen result buf.new }
+    ensures { result ≤ length buf.new }
 {
     rt.arg(i, buf).unwrap_or(0)
 }
 
-pub(crate) fn asked_mode<R: Env>(rt: &R) -> Mode {
+pub(crate) fn asked_mode<R: Env>(rt: &R) -> Option<Mode> {
     let count = word_count(rt);
     let mut name = [0u8; MOST_WORD];
     let mut first = [0u8; MOST_WORD];

@@ -5,18 +5,17 @@ use native.Mathlib.Omega.{arith}
 use mathlib.Core.Path.{◌≡◌, refl, ap, sym, ◌∙◌}
 use mathlib.Core.List.{List, [], ◌∷◌, ◌++◌}
 use lib.ListN.{length}
+use Rattle.std.specs.Prelude.{Result, Ok}
+use Rattle.refusals.specs.declared.Refusal.{Refusal}
 use Rattle.lists.specs.Counts.{each, Every}
 use Rattle.belief.specs.declared.Beliefs.{Beliefs}
 use Rattle.belief.specs.declared.Change.{Change}
 use Rattle.library.specs.Layout.{beliefs_of}
-use Rattle.accepted.specs.Refusal.{refusal_of}
 use Rattle.model.specs.State.{AgentState}
 use Rattle.model.specs.Run.{Entry}
 use Rattle.load.specs.declared.Agent.{Agent}
-use Rattle.load.specs.declared.Loaded.{Loaded}
 use Rattle.load.specs.Load.{Holds, Loads}
 use Rattle.agent.specs.Chain.{Link, entry_of, entries_of}
-use Rattle.change.specs.declared.Changed.{Changed}
 use Rattle.change.specs.Changes.{changed}
 use Rattle.ledger.specs.Ledger.{changes_of, reported, Copied, is_accepted, Agrees}
 use Rattle.ledger.specs.Ledger as Ledger
@@ -31,7 +30,7 @@ reported-entries : (links : List Link) → reported links ≡ each (λ (e : Entr
 reported-entries [] = refl
 reported-entries (link ∷ links) = ap (λ (changes : List Change). changes_of link ++ changes) (reported-entries links)
 
-copied_by : {table end : Beliefs} {answers : List Changed} (links others : List Link) → entries_of links ≡ entries_of others
+copied_by : {table end : Beliefs} {answers : List (Result Beliefs Refusal)} (links others : List Link) → entries_of links ≡ entries_of others
     → Copied table links answers end → Copied table others answers end
 copied_by [] [] e Ledger.start = Ledger.start
 copied_by [] (other ∷ others) e Ledger.start = let sizes = ap length e in absurd (omega (arith, sizes))
@@ -46,9 +45,8 @@ agrees-alike table same agrees = agrees ∙ ap (λ (s : AgentState). s.beliefs) 
 
 -- ---- From a loaded agent: the ledger begins with the loaded beliefs
 
-module _ (bytes : List ℕ) (accepted : refusal_of bytes ≡ 0) (l : Loaded) (loads : Loads bytes l)
-    {b : Agent} {links : List Link} (s : Shifts l.agent links b) where
-  u : Unbroken l.agent links b
+module _ (bytes : List ℕ) (l : Agent) (loads : Loads bytes (Ok l)) {b : Agent} {links : List Link} (s : Shifts l links b) where
+  u : Unbroken l links b
   u = unbroken_chain s
 
   same : reported u.unbroken ≡ reported links
@@ -56,20 +54,21 @@ module _ (bytes : List ℕ) (accepted : refusal_of bytes ≡ 0) (l : Loaded) (lo
 
   module _ (table : Beliefs) (begins : Holds (beliefs_of bytes) table) where
     -- the change call on all the changes that the results report is accepted, and gives the agent's belief table
-    pub ledger_agrees : (answer : Changed) → answer ≡ changed table (reported links) → (answer.refusal ≡ 0) × Agrees answer.table b
+    pub ledger_agrees : (answer : Result Beliefs Refusal) → answer ≡ changed table (reported links)
+        → (last : Beliefs) × (answer ≡ Ok last) × Agrees last b
     ledger_agrees answer e =
-        let all = LedgerLaws.ledger_agrees bytes accepted l loads u.chain table begins answer
+        let all = LedgerLaws.ledger_agrees bytes l loads u.chain table begins answer
         (e ∙ ap (changed table) (sym same)) in
-        (all.0, agrees-alike answer.table u.alike all.1)
+        (all.0, all.1, agrees-alike all.0 u.alike all.2)
 
     -- the change call on the changes of each result, one call after the other, is always accepted, and keeps the agent's belief table
-    pub copy_agrees : {answers : List Changed} {end : Beliefs} → Copied table links answers end → Every is_accepted answers × Agrees end b
+    pub copy_agrees : {answers : List (Result Beliefs Refusal)} {end : Beliefs} → Copied table links answers end → Every is_accepted answers × Agrees end b
     copy_agrees {end = end} copied =
         let own = copied_by links u.unbroken (sym u.entries) copied in
-        let all = LedgerLaws.copy_agrees bytes accepted l loads u.chain table begins own in
+        let all = LedgerLaws.copy_agrees bytes l loads u.chain table begins own in
         (all.0, agrees-alike end u.alike all.1)
 
   -- so does a ledger that begins with the table of the agent that load gave
-  pub loaded_copy_agrees : {answers : List Changed} {end : Beliefs} → Copied l.agent.state.beliefs links answers end
+  pub loaded_copy_agrees : {answers : List (Result Beliefs Refusal)} {end : Beliefs} → Copied l.state.beliefs links answers end
       → Every is_accepted answers × Agrees end b
-  loaded_copy_agrees = copy_agrees l.agent.state.beliefs (loads.table accepted)
+  loaded_copy_agrees = copy_agrees l.state.beliefs loads.table

@@ -3,7 +3,7 @@ use Prim.Native.Nat.{ℕ}
 use native.Mathlib.Omega.{arith}
 use mathlib.Core.Path.{◌≡◌, refl, ap, ap₂, sym, subst, subst⁻¹, ◌∙◌}
 use mathlib.Core.Bool.{Bool, true, cond}
-use mathlib.Core.Option.{Option, none, some}
+use Rattle.std.specs.Prelude.{Option, None, Some, Ok}
 use mathlib.Core.List.{List, [], ◌∷◌, ◌++◌, map}
 use lib.Dec.{eqb}
 use lib.ListN.{length, length-map}
@@ -11,7 +11,6 @@ use Rattle.lists.specs.Counts.{count}
 use Rattle.lists.proofs.BoolLaws.{by_cases}
 use Rattle.lists.proofs.OptionLaws.{some_equal, none-some}
 use Rattle.library.specs.Layout.{beliefs_of}
-use Rattle.accepted.specs.Refusal.{refusal_of}
 use Rattle.model.specs.State.{Call, Reply, Result, view_result}
 use Rattle.model.specs.Demand3.{Demand3}
 use Rattle.printing.specs.LineText.{newline, result_text, fits}
@@ -23,7 +22,6 @@ use Rattle.stream.specs.Calls.{at_end, calls_from, line_after}
 use Rattle.stream.proofs.EveryLine.{calls-lines}
 use Rattle.state.specs.View.{view_state}
 use Rattle.load.specs.declared.Agent.{Agent}
-use Rattle.load.specs.declared.Loaded.{Loaded}
 use Rattle.load.specs.Load.{Loads}
 use Rattle.image.specs.Saves.{image_of_agent}
 use Rattle.agent.specs.Chain.{Link, entries_of, calls_of}
@@ -42,19 +40,19 @@ use Rattle.carried.proofs.CarriedLaws.{alike-image, carried-alike}
 
 -- ---- An input cut at a line's end
 
-calls_cut : (held : Option (List ℕ)) (part rest : List ℕ) → line_after held part ≡ some []
-    → calls_from held (part ++ rest) ≡ calls_from held part ++ calls_from (some []) rest
-calls_cut held [] rest e = subst⁻¹ (λ (h : Option (List ℕ)). calls_from h rest ≡ at_end h ++ calls_from (some []) rest) e refl
+calls_cut : (held : Option (List ℕ)) (part rest : List ℕ) → line_after held part ≡ Some []
+    → calls_from held (part ++ rest) ≡ calls_from held part ++ calls_from (Some []) rest
+calls_cut held [] rest e = subst⁻¹ (λ (h : Option (List ℕ)). calls_from h rest ≡ at_end h ++ calls_from (Some []) rest) e refl
 calls_cut held (b ∷ part) rest e =
-    let after : Bool → Option (List ℕ) = λ n. cond n (line_after (some []) part) (line_after (more held (b ∷ [])) part) in
+    let after : Bool → Option (List ℕ) = λ n. cond n (line_after (Some []) part) (line_after (more held (b ∷ [])) part) in
     by_cases (is_newline b)
-    (λ n. rw n (ap (λ (calls : List (Option Call)). said held ∷ calls) (calls_cut (some []) part rest (ap after (sym n) ∙ e))))
+    (λ n. rw n (ap (λ (calls : List (Option Call)). said held ∷ calls) (calls_cut (Some []) part rest (ap after (sym n) ∙ e))))
     (λ n. rw n (calls_cut (more held (b ∷ [])) part rest (ap after (sym n) ∙ e)))
 
 -- the lines of the whole are those of the part and those of the rest
 lines_cut : (part rest : List ℕ) → EndsLine part → map call_of (lines (part ++ rest)) ≡ map call_of (lines part) ++ map call_of (lines rest)
 lines_cut part rest e =
-    sym (calls-lines (part ++ rest)) ∙ calls_cut (some []) part rest e
+    sym (calls-lines (part ++ rest)) ∙ calls_cut (Some []) part rest e
     ∙ ap₂ (λ (x y : List (Option Call)). x ++ y) (calls-lines part) (calls-lines rest)
 
 -- ---- A journal on an agent that is alike
@@ -71,7 +69,7 @@ mirrored_journal {a} same (answered {calls = calls} {text = text} j c r h fit) =
     let result : view_result n.given.result ≡ view_result r.result = ap (λ (y : Reply). y.result) reply in
     record {
       end = n.given.agent;
-      journal = subst (λ (x : Result). Journal a (calls ++ (some c ∷ [])) (text ++ result_text x) n.given.agent) result
+      journal = subst (λ (x : Result). Journal a (calls ++ (Some c ∷ [])) (text ++ result_text x) n.given.agent) result
           (answered m.journal c n.given n.calls (subst⁻¹ (λ (x : Result). fits x ≡ true) result fit));
       alike = alike-after m.alike c n.calls h;
     }
@@ -82,11 +80,11 @@ links_calls : (xs ys : List (Option Link)) → map call_in xs ≡ map call_in ys
 links_calls [] [] e = refl
 links_calls [] (y ∷ ys) e = let sizes = ap length e in absurd (omega (arith, sizes))
 links_calls (x ∷ xs) [] e = let sizes = ap length e in absurd (omega (arith, sizes))
-links_calls (none ∷ xs) (none ∷ ys) e = let behind : map call_in xs ≡ map call_in ys = cc in links_calls xs ys behind
-links_calls (none ∷ xs) (some y ∷ ys) e = let other : none ≡ some y.call = cc in none-some other
-links_calls (some x ∷ xs) (none ∷ ys) e = let other : none ≡ some x.call = cc in none-some other
-links_calls (some x ∷ xs) (some y ∷ ys) e =
-    let here : some x.call ≡ some y.call = cc in
+links_calls (None ∷ xs) (None ∷ ys) e = let behind : map call_in xs ≡ map call_in ys = cc in links_calls xs ys behind
+links_calls (None ∷ xs) (Some y ∷ ys) e = let other : None ≡ Some y.call = cc in none-some other
+links_calls (Some x ∷ xs) (None ∷ ys) e = let other : None ≡ Some x.call = cc in none-some other
+links_calls (Some x ∷ xs) (Some y ∷ ys) e =
+    let here : Some x.call ≡ Some y.call = cc in
     let call = some_equal here in
     let behind : map call_in xs ≡ map call_in ys = cc in
     let more = links_calls xs ys behind in
@@ -118,7 +116,7 @@ sessions_journal {a} (carried {input = input} {output = output} part written end
 
 -- so they print what one session prints for the whole input, and end with an agent that is alike, and has the same image
 module _ {a b c : Agent} {carry : Carry} {input output whole : List ℕ} (s : Sessions a input output b)
-    (fresh : begun carry ≡ some []) (t : Session a carry input whole c) where
+    (fresh : begun carry ≡ Some []) (t : Session a carry input whole c) where
   pub prints_the_same : output ≡ whole
   prints_the_same = journal_computed (sessions_journal s).journal ∙ sym (journal_computed (session_journal fresh t))
 
@@ -134,19 +132,19 @@ module _ {a b c : Agent} {carry : Carry} {input output whole : List ℕ} (s : Se
 pub sessions_lines : {a b : Agent} {input output : List ℕ} → Sessions a input output b → count (eqb newline) output ≡ length (lines input)
 sessions_lines {input = input} s = one_line-each (sessions_journal s).journal ∙ length-map (lines input) call_of
 
-module _ (bytes : List ℕ) (accepted : refusal_of bytes ≡ 0) (l : Loaded) (loads : Loads bytes l)
-    {b : Agent} {input output : List ℕ} (s : Sessions l.agent input output b) where
+module _ (bytes : List ℕ) (l : Agent) (loads : Loads bytes (Ok l))
+    {b : Agent} {input output : List ℕ} (s : Sessions l input output b) where
   -- from an agent that load gives, the output is the one that the definition computes for one session
   pub sessions_printed : output ≡ printed_for bytes input
-  sessions_printed = journal_printed bytes accepted l loads input (sessions_journal s).journal
+  sessions_printed = journal_printed bytes l loads input (sessions_journal s).journal
 
   -- it is the answers to the input's lines, and none is 10
-  pub sessions_accounted : Accounted bytes l.agent input output (sessions_journal s).end
-  sessions_accounted = journal_accounted bytes accepted l loads input (sessions_journal s).journal
+  pub sessions_accounted : Accounted bytes l input output (sessions_journal s).end
+  sessions_accounted = journal_accounted bytes l loads input (sessions_journal s).journal
 
   -- and demand 3 holds of every reading of the input and the output as calls and answers
   pub sessions_demand_3 : {c d : Agent} (t : Answers c (map call_of (lines input)) output d)
       → Demand3 (beliefs_of bytes) (entries_of (links_of t.answers)) (view_state b.state)
   sessions_demand_3 t =
       subst (Demand3 (beliefs_of bytes) (entries_of (links_of t.answers))) (sessions_journal s).alike.state
-      (journal_reading bytes accepted l loads input (sessions_journal s).journal t)
+      (journal_reading bytes l loads input (sessions_journal s).journal t)

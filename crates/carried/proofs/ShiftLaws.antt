@@ -4,16 +4,15 @@ use Prim.Native.Nat.{ℕ}
 use mathlib.Core.Path.{◌≡◌, refl, ap, sym, subst₂, ◌∙◌}
 use mathlib.Core.Bool.{true}
 use mathlib.Core.List.{List, [], ◌∷◌, map, map-map}
+use Rattle.std.specs.Prelude.{Ok}
 use Rattle.lists.specs.Counts.{Every}
 use Rattle.library.specs.Layout.{beliefs_of}
-use Rattle.accepted.specs.Refusal.{refusal_of}
 use Rattle.model.specs.State.{AgentState, Call}
 use Rattle.model.specs.Promises.{is_not_ten}
 use Rattle.model.specs.Run.{Entry}
 use Rattle.model.specs.Demand3.{Demand3}
 use Rattle.state.specs.View.{view_state}
 use Rattle.load.specs.declared.Agent.{Agent}
-use Rattle.load.specs.declared.Loaded.{Loaded}
 use Rattle.load.specs.Load.{Loads, is_well_formed_agent}
 use Rattle.image.specs.Saves.{image_of_agent}
 use Rattle.agent.specs.Chain.{Link, Chain, entry_of, entries_of, calls_of}
@@ -79,8 +78,8 @@ shifts_alike {links = links} {others = others} same p q calls =
 
 -- ---- The restored agent carries on as the saved one would
 
-module _ {a b c : Agent} {restored : Loaded} {links others : List Link} (over : CarriedOver a restored)
-    (p : Shifts a links b) (q : Shifts restored.agent others c) (calls : calls_of links ≡ calls_of others) where
+module _ {a b c restored : Agent} {links others : List Link} (over : CarriedOver a restored)
+    (p : Shifts a links b) (q : Shifts restored others c) (calls : calls_of links ≡ calls_of others) where
   -- for every list of calls: result for result, state for state
   pub carries_on : entries_of links ≡ entries_of others
   carries_on = (shifts_alike (carried-alike over) p q calls).entries
@@ -95,28 +94,28 @@ module _ {a b c : Agent} {restored : Loaded} {links others : List Link} (over : 
 
 -- ---- From an agent that load gives
 
-module _ (bytes : List ℕ) (accepted : refusal_of bytes ≡ 0) where
-  module _ (l : Loaded) (loads : Loads bytes l) {b : Agent} {links : List Link} (s : Shifts l.agent links b) where
+module _ (bytes : List ℕ) where
+  module _ (l : Agent) (loads : Loads bytes (Ok l)) {b : Agent} {links : List Link} (s : Shifts l links b) where
     -- demand 3, of every list of calls with saves and restores anywhere among them
     pub demand_3 : Demand3 (beliefs_of bytes) (entries_of links) (view_state b.state)
-    demand_3 = across_shifts (Demand3 (beliefs_of bytes)) (λ end unbroken c. ChainLaws.demand_3 bytes accepted l loads c) s
+    demand_3 = across_shifts (Demand3 (beliefs_of bytes)) (λ end unbroken c. ChainLaws.demand_3 bytes l loads c) s
 
     -- 10 is never answered
     pub never_ten : Every is_not_ten (entries_of links)
-    never_ten = across_shifts (λ entries state. Every is_not_ten entries) (λ end unbroken c. ChainLaws.never_ten bytes accepted l loads c) s
+    never_ten = across_shifts (λ entries state. Every is_not_ten entries) (λ end unbroken c. ChainLaws.never_ten bytes l loads c) s
 
-  loaded_formed : (l : Loaded) → Loads bytes l → is_well_formed_agent l.agent ≡ true
-  loaded_formed l x = held_formed bytes accepted l.agent (loaded_held bytes accepted l x)
+  loaded_formed : (l : Agent) → Loads bytes (Ok l) → is_well_formed_agent l ≡ true
+  loaded_formed l x = held_formed bytes x.accepted l (loaded_held bytes l x)
 
-  loaded-alike : (l m : Loaded) → Loads bytes l → Loads bytes m → Alike l.agent m.agent
+  loaded-alike : (l m : Agent) → Loads bytes (Ok l) → Loads bytes (Ok m) → Alike l m
   loaded-alike l m x y = record {
     test = loaded_formed l x ∙ sym (loaded_formed m y);
-    library = x.copy accepted ∙ sym (y.copy accepted);
-    state = x.state accepted ∙ sym (y.state accepted);
+    library = x.copy ∙ sym y.copy;
+    state = x.state ∙ sym y.state;
   }
 
   -- results and states depend on the library and the calls alone, and not on what was saved and restored, where, or how often
-  pub same_entries : (l m : Loaded) → Loads bytes l → Loads bytes m
-      → {a b : Agent} {links others : List Link} → Shifts l.agent links a → Shifts m.agent others b
+  pub same_entries : (l m : Agent) → Loads bytes (Ok l) → Loads bytes (Ok m)
+      → {a b : Agent} {links others : List Link} → Shifts l links a → Shifts m others b
       → calls_of links ≡ calls_of others → entries_of links ≡ entries_of others
   same_entries l m x y p q calls = (shifts_alike (loaded-alike l m x y) p q calls).entries

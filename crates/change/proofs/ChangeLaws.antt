@@ -4,7 +4,9 @@ use mathlib.Core.Path.{◌≡◌, refl, ap, sym, ◌∙◌}
 use mathlib.Core.Bool.{Bool, true, false}
 use mathlib.Core.List.{List, [], ◌∷◌, ◌++◌, foldl-append}
 use lib.ListN.{length}
+use Rattle.std.specs.Prelude.{Ok}
 use Rattle.lists.proofs.BoolLaws.{by_cases}
+use Rattle.refusals.proofs.NumberLaws.{ok_equal}
 use Rattle.literal.specs.declared.Literal.{Literal}
 use Rattle.literal.specs.Literal.{is_ground, opposite}
 use Rattle.belief.specs.declared.Beliefs.{Beliefs}
@@ -14,7 +16,6 @@ use Rattle.belief.specs.Beliefs.{most_beliefs, view, holds}
 use Rattle.belief.specs.Table.{unchanged, remove, is_table}
 use Rattle.belief.proofs.TableSteps.{add_held, add-full}
 use Rattle.belief.proofs.BeliefLaws.{add_places, remove_places, add-table, remove-table}
-use Rattle.change.specs.declared.Changed.{Changed}
 use Rattle.change.specs.Changes.{step_by, step, steps, changed}
 
 -- ---- The order
@@ -87,14 +88,15 @@ steps_sound table h (c ∷ changes) = steps_sound (step table c) (step_sound tab
 -- ---- The answer
 
 -- a table that keeps the rules is not refused
-pub changed_sound : (table : Beliefs) → Sound table → (changes : List Change) → changed table changes ≡ record { refusal = 0; table = steps table changes }
+pub changed_sound : (table : Beliefs) → Sound table → (changes : List Change) → changed table changes ≡ Ok (steps table changes)
 unfolding changed
 changed_sound table h changes = rw h.rules
 
 -- changes after each other: the call on both lists is the call on the second, on what the first made
-pub changed-joined : (table : Beliefs) → Sound table → (now later : List Change) → changed table (now ++ later) ≡ changed (changed table now).table later
+pub changed-joined : (table middle : Beliefs) → Sound table → (now later : List Change) → changed table now ≡ Ok middle
+    → changed table (now ++ later) ≡ changed middle later
 unfolding steps
-changed-joined table h now later =
-    let first = changed_sound table h now in
-    changed_sound table h (now ++ later) ∙ ap (λ (t : Beliefs). record { refusal = 0; table = t }) (foldl-append step table now later)
-    ∙ sym (changed_sound (steps table now) (steps_sound table h now) later) ∙ ap (λ (r : Changed). changed r.table later) (sym first)
+changed-joined table middle h now later first =
+    let same : steps table now ≡ middle = ok_equal (sym (changed_sound table h now) ∙ first) in
+    changed_sound table h (now ++ later) ∙ ap Ok (foldl-append step table now later)
+    ∙ sym (changed_sound (steps table now) (steps_sound table h now) later) ∙ ap (λ (t : Beliefs). changed t later) same

@@ -6,27 +6,17 @@ use mathlib.Core.Bool.{Bool, true, false}
 use mathlib.Core.List.{List}
 use lib.ListN.{length, get_or, drop, drop_of_length-le}
 use lib.Seq.{drop-cons}
+use Rattle.std.specs.Prelude.{Ok, Err}
+use Rattle.refusals.specs.declared.Refusal.TheVariants.{NotFormed}
 use Rattle.literal.specs.declared.Literal.{Literal}
 use Rattle.literal.specs.Literal.{is_ground}
 use Rattle.belief.specs.declared.Beliefs.{Beliefs}
 use Rattle.belief.specs.declared.Change.{Change}
 use Rattle.belief.specs.declared.Applied.{Applied}
 use Rattle.belief.specs.Table.{add, remove, is_table}
-use Rattle.change.specs.declared.Changed.{Changed}
 use Rattle.change.specs.Changes.{step_by, step, steps, changed}
 
 -- ---- One change
-
-module _ (table : Beliefs) (l : Literal) where
-  -- a literal that is not ground is passed over
-  pub step_open : (removes : Bool) → is_ground l ≡ false → table ≡ step_by (is_ground l) removes table l
-  step_open removes e = rw e
-
-  pub step_added : (a : Applied) → is_ground l ≡ true → a ≡ add table l → a.table ≡ step_by (is_ground l) false table l
-  step_added a g e = rw g (ap (λ (x : Applied). x.table) e)
-
-  pub step-removed : (a : Applied) → is_ground l ≡ true → a ≡ remove table l → a.table ≡ step_by (is_ground l) true table l
-  step-removed a g e = rw g (ap (λ (x : Applied). x.table) e)
 
 -- by whether it removes
 pub step_as : (table : Beliefs) (c : Change) (removes : Bool) → c.removes ≡ removes → step_by (is_ground c.literal) removes table c.literal ≡ step table c
@@ -53,11 +43,10 @@ steps_done changes i table h = rw (drop_of_length-le changes h)
 -- ---- The answer
 
 module _ (table : Beliefs) (changes : List Change) where
-  pub answer-refused : (r : Changed) → is_table table ≡ false → r ≡ record { refusal = 10; table = table } → r ≡ changed table changes
+  pub answer-refused : is_table table ≡ false → Err NotFormed ≡ changed table changes
   unfolding changed
-  answer-refused r bad e = rw (e, bad)
+  answer-refused bad = rw bad
 
-  pub answer-accepted : (r : Changed) (last : Beliefs) → is_table table ≡ true → r ≡ record { refusal = 0; table = last } → last ≡ steps table changes
-      → r ≡ changed table changes
+  pub answer-accepted : (last : Beliefs) → is_table table ≡ true → last ≡ steps table changes → Ok last ≡ changed table changes
   unfolding changed
-  answer-accepted r last good e f = rw (e, good, f)
+  answer-accepted last good f = rw (good, f)

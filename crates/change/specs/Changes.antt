@@ -1,12 +1,13 @@
 -- What the change call gives: the whole table, every place of its array (document 01, "The three calls", Change call).
-use Rattle.std.specs.Prelude.{Bool, true, false}
+use Rattle.std.specs.Prelude.{Bool, true, false, Result, Ok, Err}
 use mathlib.Core.List.{List, foldl}
+use Rattle.refusals.specs.declared.Refusal.{Refusal}
+use Rattle.refusals.specs.declared.Refusal.TheVariants.{NotFormed}
 use Rattle.literal.specs.declared.Literal.{Literal}
 use Rattle.literal.specs.Literal.{is_ground}
 use Rattle.belief.specs.declared.Beliefs.{Beliefs}
 use Rattle.belief.specs.declared.Change.{Change}
 use Rattle.belief.specs.Table.{add, remove, is_table}
-use Rattle.change.specs.declared.Changed.{Changed}
 
 -- one change, by whether its literal is ground and whether it removes. A literal that is not ground is passed over here;
 -- an add of a held literal, or one to 64 beliefs that takes no opposite out, and a removal of an absent one leave the table as it is
@@ -23,11 +24,11 @@ step table c = step_by (is_ground c.literal) c.removes table c.literal
 unfoldable pub steps : Beliefs → List Change → Beliefs
 steps table changes = foldl step table changes
 
--- by whether the table keeps the rules for beliefs: one that breaks them is refused with 10, and comes back as given
-abbrev pub changed_by : Bool → Beliefs → List Change → Changed
-changed_by true table changes = record { refusal = 0; table = steps table changes }
-changed_by false table changes = record { refusal = 10; table = table }
+-- by whether the table keeps the rules for beliefs: one that breaks them is refused, and there is no table after it
+abbrev pub changed_by : Bool → Beliefs → List Change → Result Beliefs Refusal
+changed_by true table changes = Ok (steps table changes)
+changed_by false table changes = Err NotFormed
 
 -- what the change call gives
-unfoldable pub changed : Beliefs → List Change → Changed
+unfoldable pub changed : Beliefs → List Change → Result Beliefs Refusal
 changed table changes = changed_by (is_table table) table changes

@@ -7,13 +7,7 @@ ghost use Rattle.change.specs.Changes.{step_by, changed};
 
 use belief::{Beliefs, Change};
 use literal::Literal;
-
-// What the change call answers: the refusal's number, 0 where there is none, and the table.
-#[derive(Clone, Copy)]
-pub struct Changed {
-    pub refusal: u16,
-    pub table: Beliefs,
-}
+use refusals::Refusal;
 
 // The table with the literal; one that is not ground, is held already or finds 64 beliefs is passed over.
 fn with_added(table: Beliefs, new: Literal) -> Beliefs
@@ -22,8 +16,7 @@ fn with_added(table: Beliefs, new: Literal) -> Beliefs
     if !literal::is_ground(new) {
         return table;
     }
-    let more = belief::added(table, new);
-    more.table
+    belief::added(table, new).table
 }
 
 // The table without the literal; one that is not ground or is absent is passed over.
@@ -33,47 +26,23 @@ fn with_removed(table: Beliefs, old: Literal) -> Beliefs
     if !literal::is_ground(old) {
         return table;
     }
-    let fewer = belief::removed(table, old);
-    fewer.table
+    belief::removed(table, old).table
 }
 
-// A table that breaks the rules for beliefs comes back as it was given.
-fn refused(table: Beliefs) -> Changed
-    ensures { result ≡ record { refusal = 10; table = table } }
-{
-    Changed {
-        refusal: 10,
-        table: table,
-    }
-}
-
-// The table after all changes.
-fn accepted(table: Beliefs) -> Changed
-    ensures { result ≡ record { refusal = 0; table = table } }
-{
-    Changed {
-        refusal: 0,
-        table: table,
-    }
-}
-
-// The table after the changes, in order.
-pub fn change(table: Beliefs, changes: &[Change]) -> Changed
+// The table after the changes, in order; one that breaks the rules for beliefs is refused.
+pub fn change(table: Beliefs, changes: &[Change]) -> Result<Beliefs, Refusal>
     ensures { result ≡ changed table changes.now }
 {
     if !belief::is_table(table) {
-        return refused(table);
+        return Err(Refusal::NotFormed);
     }
     let mut t = table;
-    let mut i = 0;
-    while i < changes.len() {
-        let c = changes[i];
+    for c in changes {
         if c.removes {
             t = with_removed(t, c.literal);
         } else {
             t = with_added(t, c.literal);
         }
-        i += 1;
     }
-    accepted(t)
+    Ok(t)
 }

@@ -1,18 +1,11 @@
 -- What the words behind the program's name ask for (document 02: request 3 brings `shift`, request 9 `board`, request 10 `endings`).
-use Rattle.std.specs.Prelude.{ℕ, ◌-◌, Bool, true, false, cond, ◌&&◌, List, [], ◌∷◌, eqb, take}
-use Rattle.std.proofs.Math.Option.{Option, none, some}
+use Rattle.std.specs.Prelude.{ℕ, ◌-◌, cond, List, [], ◌∷◌, take, Option, None, Some}
+use Rattle.std.specs.Str.{bytes_eq}
 use Rattle.reading.specs.Call.{number, largest_number}
 use Rattle.command.specs.declared.Mode.{Mode}
-use Rattle.command.specs.declared.Mode.TheVariants.{Journal, Shift, Board, Endings, Unknown}
+use Rattle.command.specs.declared.Mode.TheVariants.{Journal, Shift, Board, Endings}
 
 -- ---- Words
-
--- whether two words have the same bytes
-abbrev pub same : List ℕ → List ℕ → Bool
-same [] [] = true
-same [] (b ∷ name) = false
-same (a ∷ word) [] = false
-same (a ∷ word) (b ∷ name) = eqb a b && same word name
 
 -- "shift"
 abbrev pub shift_name : List ℕ
@@ -33,30 +26,30 @@ words_of count name first second = take (count - 1) (name ∷ first ∷ second �
 -- ---- Modes
 
 -- two numbers: a plan and a length
-abbrev pub endings_by : Option ℕ → Option ℕ → Mode
-endings_by none length = Unknown
-endings_by (some plan) none = Unknown
-endings_by (some plan) (some length) = Endings plan length
+abbrev pub endings_by : Option ℕ → Option ℕ → Option Mode
+endings_by None length = None
+endings_by (Some plan) None = None
+endings_by (Some plan) (Some length) = Some (Endings plan length)
 
-unfoldable pub endings_mode : List ℕ → List ℕ → Mode
+unfoldable pub endings_mode : List ℕ → List ℕ → Option Mode
 endings_mode plan length = endings_by (number largest_number plan) (number largest_number length)
 
 -- modes of one word, and of three: a mode joins by a line
-unfoldable pub one_word : List ℕ → Mode
+unfoldable pub one_word : List ℕ → Option Mode
 one_word name =
-    cond (same name shift_name) Shift
-    (cond (same name board_name) Board
-    Unknown)
+    cond (bytes_eq name shift_name) (Some Shift)
+    (cond (bytes_eq name board_name) (Some Board)
+    None)
 
-unfoldable pub three_words : List ℕ → List ℕ → List ℕ → Mode
+unfoldable pub three_words : List ℕ → List ℕ → List ℕ → Option Mode
 three_words name first second =
-    cond (same name endings_name) (endings_mode first second)
-    Unknown
+    cond (bytes_eq name endings_name) (endings_mode first second)
+    None
 
 -- no words: the journal; no mode has two words, or more than three
-unfoldable pub mode_of : List (List ℕ) → Mode
-mode_of [] = Journal
+unfoldable pub mode_of : List (List ℕ) → Option Mode
+mode_of [] = Some Journal
 mode_of (name ∷ []) = one_word name
-mode_of (name ∷ first ∷ []) = Unknown
+mode_of (name ∷ first ∷ []) = None
 mode_of (name ∷ first ∷ second ∷ []) = three_words name first second
-mode_of (name ∷ first ∷ second ∷ third ∷ more) = Unknown
+mode_of (name ∷ first ∷ second ∷ third ∷ more) = None

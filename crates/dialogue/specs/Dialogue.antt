@@ -1,7 +1,6 @@
 -- A turn of the dialogue (document 01, "Journal"): what a read gave is answered from the place reached on. A read of no bytes is the
 -- input's end, which ends a line that has begun.
-use Rattle.std.specs.Prelude.{ℕ, ◌+◌, ◌≡◌, Bool, true, false, List, [], ◌∷◌, leb, eqb, length, drop}
-use Rattle.std.proofs.Math.Option.{Option, some}
+use Rattle.std.specs.Prelude.{ℕ, ◌+◌, ◌≡◌, Bool, true, false, List, [], ◌∷◌, leb, eqb, length, drop, Option, Some}
 use Rattle.model.specs.State.{Call}
 use Rattle.printing.specs.LineText.{newline}
 use Rattle.stream.specs.Carried.{begun}
@@ -16,7 +15,7 @@ use Rattle.dialogue.specs.declared.Dialogue.{Dialogue}
 -- nothing is said to the agent yet
 pub record Begins (a : Agent) (r : Dialogue) : Type 0 where
   pub agent : r.agent ≡ a
-  pub silent : begun r.carry ≡ some []
+  pub silent : begun r.carry ≡ Some []
   pub at : r.at ≡ 0
   pub wrote : r.wrote ≡ 0
   pub reads : r.used ≡ true

@@ -6,7 +6,7 @@ ghost use Rattle.dialogue.specs.Dialogue.{Begins, Turns, TurnsBy};
 
 use agent::feed;
 use load::Agent;
-use stream::{Carry, Last};
+use stream::Carry;
 
 // The agent, the line so far, how much of the last piece of input is used, how many bytes of the output the last turn wrote,
 // whether another piece is to be read, and whether the input's end is answered.
@@ -20,14 +20,16 @@ pub struct Dialogue {
     pub ended: bool,
 }
 
+// No enum of what is next: after a failed write the program around it takes back `ended` alone, whatever `used` says.
+
 // Nothing is said yet.
 pub fn begin(agent: Agent) -> Dialogue
     ensures { Begins agent result }
 {
     let carry = stream::no_line();
     Dialogue {
-        agent: agent,
-        carry: carry,
+        agent,
+        carry,
         at: 0,
         wrote: 0,
         used: true,
@@ -69,7 +71,7 @@ fn answer_end(d: Dialogue, piece: &[u8], out: &mut [u8]) -> Dialogue
     ensures { TurnsBy true d piece.now out.old out.new result }
 {
     let carry = d.carry;
-    let Last::Line(_) = stream::last_line(carry) else {
+    let Some(_) = stream::last_line(carry) else {
         return Dialogue {
             wrote: 0,
             used: true,

@@ -1,7 +1,8 @@
 -- Every row of the tables of cases is as it is wanted: by computing.
 use mathlib.Core.Path.{◌≡◌, refl}
 use mathlib.Core.List.{map}
-use Rattle.lists.specs.Search.{any, all, distinct}
+use Rattle.std.specs.List.{list_any, list_all}
+use Rattle.lists.specs.Search.{distinct}
 use Rattle.literal.specs.Literal.{is_ground, same}
 use Rattle.library.specs.Bytes.{u16_at, items, rows, rows_end}
 use Rattle.library.specs.Layout.{situation_at, situation_end, actions_at, actions_end, states_at, states_end, maintenance_off, success_off, failure_off, states_off, plan_end, plan_at, plan_count, belief_count, plans_off, beliefs_of}
@@ -24,5 +25,5 @@ unfolding table
 sums = refl
 
 pub call-cases : map answered calls ≡ map (λ a. a.wanted) calls
-unfolding calls journal_library refusal_of contents_fit packed_from is_packed beliefs_ok plan_fits_at plans_fit plan_count belief_count plans_off beliefs_of u16_at items rows rows_end all any distinct is_ground same situation_at situation_end actions_at actions_end states_at states_end maintenance_off success_off failure_off states_off plan_end plan_at situation_ok actions_ok branch_ok state_ok states_from entries_in entries is_tree states_ok plan_ok part_refusal_of move_by after answers ways endings_refusal endings_of
+unfolding calls journal_library refusal_of contents_fit packed_from is_packed beliefs_ok plan_fits_at plans_fit plan_count belief_count plans_off beliefs_of u16_at items rows rows_end distinct is_ground same situation_at situation_end actions_at actions_end states_at states_end maintenance_off success_off failure_off states_off plan_end plan_at situation_ok actions_ok branch_ok state_ok states_from entries_in entries is_tree states_ok plan_ok part_refusal_of move_by after answers ways endings_refusal endings_of
 call-cases = refl

@@ -1,4 +1,3 @@
 pub mod WaysLaws
-pub mod EndingsLaws
 pub mod SumLaws
 pub mod Cases

@@ -174,8 +174,9 @@ module _ (test : Standing → Bool) (still : test running ≡ false) (before : t
         → sum_from state tried (suc most) ≡ at_nexts whole (drop tried (branches_of state)) + bit (test (ended (branches_of state)))
     sum_left zero state tried there e =
         let all : tried ≡ length (branches_of state) = omega arith in
-        let none = drop_of_length-le (branches_of state) {i = tried} (omega arith) in
-        rw (none, all, sum-ended state most) (omega arith)
+        let last = ap (λ (n : ℕ). sum_from state n (suc most)) all ∙ sum-ended state most in
+        let none = ap (at_nexts whole) (drop_of_length-le (branches_of state) {i = tried} (omega arith)) in
+        omega (arith, last, none)
     sum_left (suc more) state tried there e =
         let here = sum-tried state tried (suc most) (omega arith) in
         let steady = sum_steady state tried there (omega arith) in

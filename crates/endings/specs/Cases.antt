@@ -1,11 +1,10 @@
 -- Bodies with their counts, worked out by hand, and the libraries that the call refuses (document 02, request 10).
-use Rattle.std.specs.Prelude.{ℕ, ◌+◌, List, [], ◌∷◌, map}
+use Rattle.std.specs.Prelude.{ℕ, ◌+◌, List, [], ◌∷◌, map, Result, Ok, Err}
 use Rattle.library.specs.declared.Branch.{Branch}
 use Rattle.accepted.specs.Cases.{journal_library}
 use Rattle.endings.specs.declared.Counts.{Counts}
-use Rattle.endings.specs.declared.Endings.{Endings}
 use Rattle.endings.specs.Answers.{both_of, endings}
-use Rattle.endings.specs.Endings.{refused_by, endings_of}
+use Rattle.endings.specs.Endings.{endings_of}
 
 -- ---- Bodies
 
@@ -46,15 +45,15 @@ pub record Asked : Type 0 where
   pub bytes : List ℕ
   pub plan : ℕ
   pub n : ℕ
-  pub wanted : Endings
+  pub wanted : Result Counts ℕ
 
-abbrev asked : List ℕ → ℕ → ℕ → Endings → Asked
+abbrev asked : List ℕ → ℕ → ℕ → Result Counts ℕ → Asked
 asked bytes plan n wanted = record { bytes = bytes; plan = plan; n = n; wanted = wanted }
 
-abbrev given : ℕ → ℕ → Endings
-given succeeded failed = record { refusal = 0; counts = both_of succeeded failed }
+abbrev given : ℕ → ℕ → Result Counts ℕ
+given succeeded failed = Ok (both_of succeeded failed)
 
-abbrev pub answered : Asked → Endings
+abbrev pub answered : Asked → Result Counts ℕ
 answered a = endings_of a.bytes a.plan a.n
 
 -- the plan of the library of 58 bytes has one branch; 1 comes before 11, and 11 before 15
@@ -64,7 +63,7 @@ calls =
     ∷ asked journal_library 0 1 (given 1 1)
     ∷ asked journal_library 0 2 (given 0 0)
     ∷ asked journal_library 0 3 (given 0 0)
-    ∷ asked journal_library 0 16 (refused_by 15)
-    ∷ asked journal_library 1 16 (refused_by 11)
-    ∷ asked [] 1 16 (refused_by 1)
+    ∷ asked journal_library 0 16 (Err 15)
+    ∷ asked journal_library 1 16 (Err 11)
+    ∷ asked [] 1 16 (Err 1)
     ∷ []

@@ -2,12 +2,14 @@
 #![tactic(auto)]
 
 ghost use Rattle.std.specs.Prelude.{◌≡◌, ◌≤◌, ◌<◌, [], length, get_or};
+ghost use Rattle.refusals.specs.Numbers.{numbered};
 ghost use Rattle.library.specs.Layout.{plan_count, plan_of};
 ghost use Rattle.accepted.specs.Refusal.{refusal_of};
 ghost use Rattle.endings.specs.Answers.{both_of, endings};
-ghost use Rattle.endings.specs.Endings.{refused_by, endings_of};
+ghost use Rattle.endings.specs.Endings.{endings_of};
 
 use library::plan::{branch, branch_count};
+use refusals::Refusal;
 
 // How many lists of answers there are after which the body has just succeeded, and just failed.
 #[derive(Clone, Copy)]
@@ -68,43 +70,18 @@ fn from_branch(library: &[u8], plan: usize, state: usize, at: usize, n: usize) -
     )
 }
 
-// What the plan's body comes to: the refusal's number, 0 where there is none, and the counts, 0 where it is refused.
-#[derive(Clone, Copy)]
-pub struct Endings {
-    pub refusal: u16,
-    pub counts: Counts,
-}
-
 // Lists are of at most this many answers.
 const MOST_ANSWERS: usize = 15;
 
-// The refusal of a longer length.
-const TOO_MANY: u16 = 15;
-
-fn refused(refusal: u16) -> Endings
-    ensures { result ≡ refused_by refusal }
-{
-    let none = both(0, 0);
-    Endings {
-        refusal: refusal,
-        counts: none,
-    }
-}
-
 // How many lists of n answers there are after which the plan's body has just succeeded, and just failed.
-pub fn endings_of(library: &[u8], plan: usize, n: usize) -> Endings
-    ensures { result ≡ endings_of library.now plan n }
+#[tactic(auto, unfolding(crate::specs::Endings::endings_of, crate::specs::Endings::endings_refusal))]
+pub fn endings_of(library: &[u8], plan: usize, n: usize) -> Result<Counts, Refusal>
+    ensures { numbered result ≡ endings_of library.now plan n }
 {
-    let refusal = accepted::plan_part_refusal(library, plan);
-    if refusal != 0 {
-        return refused(refusal);
-    }
+    accepted::plan_refusal(library, plan)?;
     if MOST_ANSWERS < n {
-        return refused(TOO_MANY);
+        return Err(Refusal::LongLists);
     }
     let counts = from_state(library, plan, 0, n);
-    Endings {
-        refusal: 0,
-        counts: counts,
-    }
+    Ok(counts)
 }

@@ -1,81 +1,66 @@
--- The steps of the loops that count events, or go down a stack, and what a test of the live instances says of their array.
-use Prim.Native.Nat.{ℕ, zero, suc, ◌+◌, ◌-◌, ◌<◌, ◌≤◌, min}
-use native.Mathlib.Nat.{zero-add}
+-- Laws of lists that are tested from the front, and of the instances below a top.
+use Prim.Native.Nat.{ℕ, zero, suc, ◌-◌, ◌≤◌}
 use native.Mathlib.Omega.{arith}
-use mathlib.Core.Path.{◌≡◌, refl, ap, ◌∙◌}
-use mathlib.Core.Bool.{Bool, true, false}
-use mathlib.Core.List.{List}
-use lib.ListN.{length, take, drop, get_or, length-take, drop_of_length-le}
-use Rattle.lists.specs.Search.{any, all, distinct}
-use Rattle.lists.proofs.LoopLaws.{element_at, all-mapped, any-mapped, distinct-mapped}
+use mathlib.Core.Path.{◌≡◌, refl, ap, sym, ◌∙◌}
+use mathlib.Core.Bool.{Bool, true, false, not, ◌&&◌, ◌||◌, and_assoc, and_comm, and-false, and-true, or-true}
+use mathlib.Core.List.{List, [], ◌∷◌, ◌++◌}
+use lib.ListN.{length, take, drop, get_or}
+use lib.Seq.{take-suc, take_all}
+use Rattle.std.specs.List.{list_any, list_all}
+use Rattle.lists.specs.Search.{distinct}
 use Rattle.model.specs.declared.Instance.{Instance}
-use Rattle.lists.specs.Counts.{bit, count}
-use Rattle.model.specs.Live.{Job}
 use Rattle.state.specs.View.{no_instance, down}
-use Rattle.jobs.specs.declared.Job.{Job as Stored}
-use Rattle.jobs.specs.declared.Jobs.{Jobs}
-use Rattle.jobs.specs.Jobs.{job_of, view_jobs}
 
--- ---- Counting the elements that pass
+-- ---- The first element, and those after it as a slice pattern gives them
 
-module _ {A : Type 0} (test : A → Bool) where
-  -- so many passed before i
-  abbrev pub Counted : List A → ℕ → ℕ → Type 0
-  Counted xs passed i = passed + count test (drop i xs) ≡ count test xs
+module _ {A : Type 0} (equal : A → A → Bool) where
+  pub distinct_from_first : (xs : List A) (d : A) → 1 ≤ length xs
+      → distinct equal xs
+      ≡ (not (list_any (equal (get_or xs 0 d)) (take (length xs - 1) (drop 1 xs))) && distinct equal (take (length xs - 1) (drop 1 xs)))
+  unfolding distinct
+  distinct_from_first [] d h = absurd (omega arith)
+  distinct_from_first (x ∷ xs) d h =
+      let n : suc (length xs) - 1 ≡ length xs = omega arith in
+      rw (n, take_all (length xs) xs (omega arith))
 
-  pub counted_start : (xs : List A) → Counted xs 0 0
-  counted_start xs = zero-add (count test xs)
+  pub distinct_none : (xs : List A) → length xs ≤ 0 → distinct equal xs ≡ true
+  unfolding distinct
+  distinct_none [] h = refl
+  distinct_none (x ∷ xs) h = absurd (omega arith)
 
-  pub counted_next : (xs : List A) (n i : ℕ) (d : A) → i < n → n ≤ length xs → (passed more : ℕ) → more ≡ bit (test (get_or xs i d))
-      → Counted (take n xs) passed i → Counted (take n xs) (passed + more) (i + 1)
-  counted_next xs n i d low high passed more e inv =
-      let here : count test (drop i (take n xs)) ≡ bit (test (get_or xs i d)) + count test (drop (i + 1) (take n xs)) = ap (count test) (element_at xs n i d low high) in
-      omega arith
+-- some one passes one of two tests
+pub any_either : {A : Type 0} (f g : A → Bool) (xs : List A) → list_any (λ x. f x || g x) xs ≡ (list_any f xs || list_any g xs)
+any_either f g [] = refl
+any_either f g (x ∷ xs) = ap (λ (b : Bool). (f x || g x) || b) (any_either f g xs) ∙ swap (f x) (g x) (list_any f xs) (list_any g xs)
+  where
+    swap : (a b c d : Bool) → ((a || b) || (c || d)) ≡ ((a || c) || (b || d))
+    swap true b c d = refl
+    swap false true c d = sym (or-true c)
+    swap false false c d = refl
 
-  pub counted-end : (xs : List A) (n i : ℕ) → n ≤ i → (passed : ℕ) → Counted (take n xs) passed i → passed ≡ count test (take n xs)
-  counted-end xs n i h passed inv =
-      let past : length (take n xs) ≤ i = simp length-take (omega arith) in
-      let none : count test (drop i (take n xs)) ≡ 0 = ap (count test) (drop_of_length-le (take n xs) past) in
-      omega arith
+-- two lists of which no element equals a later one: the first is not among the rest
+pub neither : (a b c d : Bool) → (a || b) ≡ false → (c && d) ≡ ((not a && c) && (not b && d))
+neither true b c d h = cc
+neither false true c d h = cc
+neither false false c d h = refl
 
--- ---- Down a stack
+pub some_repeated : (a b c d : Bool) → (a || b) ≡ true → false ≡ ((not a && c) && (not b && d))
+some_repeated true b c d h = refl
+some_repeated false true c d h = sym (and-false c)
+some_repeated false false c d h = cc
 
-module _ (test : Instance → Bool) (xs : List Instance) where
-  pub down_next : (depth : ℕ) → 0 < depth → test (get_or xs (depth - 1) no_instance) ≡ true → all test (down (depth - 1) xs) ≡ all test (down depth xs)
-  unfolding all down
-  down_next zero h e = absurd (omega arith)
-  down_next (suc depth) h e =
-      let one : suc depth - 1 ≡ depth = omega arith in
-      let here : test (get_or xs depth no_instance) ≡ true = rw one at e in
-      rw (one, here)
+-- ---- The instances below a top, the last of them first
 
-  pub down_stop : (depth : ℕ) → 0 < depth → test (get_or xs (depth - 1) no_instance) ≡ false → all test (down depth xs) ≡ false
-  unfolding all down
-  down_stop zero h e = absurd (omega arith)
-  down_stop (suc depth) h e =
-      let one : suc depth - 1 ≡ depth = omega arith in
-      let here : test (get_or xs depth no_instance) ≡ false = rw one at e in
-      rw here
+module _ (test : Instance → Bool) where
+  all_joined : (xs ys : List Instance) → list_all test (xs ++ ys) ≡ (list_all test xs && list_all test ys)
+  all_joined [] ys = refl
+  all_joined (x ∷ xs) ys = ap (λ (b : Bool). test x && b) (all_joined xs ys) ∙ sym (and_assoc (test x) (list_all test xs) (list_all test ys))
 
-  pub down-end : (depth : ℕ) → depth ≤ 0 → all test (down depth xs) ≡ true
-  unfolding all down
-  down-end zero h = refl
-  down-end (suc depth) h = absurd (omega arith)
-
--- ---- The live instances
-
-module _ (jobs : Jobs) (few : jobs.count ≤ 64) where
-  used : min jobs.count 64 ≡ jobs.count
-  used = omega arith
-
-  pub all-jobs : (test : Job → Bool) → all test (view_jobs jobs) ≡ all (λ (job : Stored). test (job_of job)) (take jobs.count jobs.items)
-  all-jobs test = all-mapped job_of test (take (min jobs.count 64) jobs.items) ∙ ap (λ (n : ℕ). all (λ (job : Stored). test (job_of job)) (take n jobs.items)) used
-
-  pub any-job : (test : Job → Bool) → any test (view_jobs jobs) ≡ any (λ (job : Stored). test (job_of job)) (take jobs.count jobs.items)
-  any-job test = any-mapped job_of test (take (min jobs.count 64) jobs.items) ∙ ap (λ (n : ℕ). any (λ (job : Stored). test (job_of job)) (take n jobs.items)) used
-
-  pub distinct-jobs : (equal : Job → Job → Bool)
-      → distinct equal (view_jobs jobs) ≡ distinct (λ (one two : Stored). equal (job_of one) (job_of two)) (take jobs.count jobs.items)
-  distinct-jobs equal =
-      distinct-mapped job_of equal (take (min jobs.count 64) jobs.items)
-      ∙ ap (λ (n : ℕ). distinct (λ (one two : Stored). equal (job_of one) (job_of two)) (take n jobs.items)) used
+  pub all-down : (n : ℕ) (xs : List Instance) → n ≤ length xs → list_all test (down n xs) ≡ list_all test (take n xs)
+  unfolding down
+  all-down zero xs h = refl
+  all-down (suc n) xs h =
+      ap (λ (b : Bool). test (get_or xs n no_instance) && b) (all-down n xs (omega arith))
+      ∙ and_comm (test (get_or xs n no_instance)) (list_all test (take n xs))
+      ∙ sym (ap (list_all test) (take-suc xs n no_instance (omega arith)) ∙ all_joined (take n xs) (get_or xs n no_instance ∷ [])
+      ∙ ap (λ (b : Bool). list_all test (take n xs) && b) (and-true (test (get_or xs n no_instance))))

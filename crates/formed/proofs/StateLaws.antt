@@ -1,16 +1,17 @@
--- The whole test, way by way in the order of the code, which tests the cheap rules first: the order of rules that all must hold is free.
-use Prim.Native.Nat.{ℕ, ◌<◌, ◌≤◌, min}
+-- The whole test in the order of the code, which tests the cheap rules first: the order of rules that all must hold is free.
+use Prim.Native.Nat.{ℕ, ◌<◌, ◌≤◌}
 use native.Mathlib.Omega.{arith}
 use mathlib.Core.Path.{◌≡◌, ap, sym, ◌∙◌}
-use mathlib.Core.Bool.{Bool, true, false, ◌&&◌}
+use mathlib.Core.Bool.{Bool, true, false, ◌&&◌, and_assoc, and-false}
 use mathlib.Core.List.{List, map}
 use lib.Dec.{leb}
 use lib.ListN.{length, take, length-map, length-take}
 use borrow.Author.Tests.{le-leb, lt-leb, leb-true}
-use Rattle.lists.specs.Search.{any, all, distinct}
+use Rattle.std.specs.List.{list_any, list_all}
+use Rattle.lists.specs.Search.{distinct}
 use Rattle.lists.proofs.BoolLaws.{and_parts, and_both}
 use Rattle.lists.proofs.AndLaws.{equal_tests, all_both}
-use Rattle.lists.proofs.LoopLaws.{all-mapped}
+use Rattle.lists.proofs.LoopLaws.{all-mapped, distinct-mapped}
 use Rattle.belief.specs.declared.Beliefs.{Beliefs}
 use Rattle.belief.specs.Beliefs.{most_beliefs, view, are_beliefs}
 use Rattle.belief.specs.Table.{is_table}
@@ -18,14 +19,16 @@ use Rattle.belief.proofs.BeliefLaws.{table-parts, table-both}
 use Rattle.library.specs.Layout.{library_of}
 use Rattle.model.specs.State.{most_number}
 use Rattle.model.specs.Live.{Job, live}
-use Rattle.model.specs.WellFormed.{are_events, are_instances, is_stack, is_served, same_served, has_goal, has_poster, are_served, is_well_formed}
+use Rattle.model.specs.WellFormed.{are_events, is_instance, are_instances, same_id, is_stack, is_served, same_served, has_goal, has_poster, are_served, is_well_formed}
 use Rattle.state.specs.declared.Stack.{Stack}
 use Rattle.state.specs.declared.State.{State}
 use Rattle.state.specs.View.{most_below, view_stack, view_queue, view_stacks, stacked_of, counts_fit}
 use Rattle.jobs.specs.declared.Jobs.{Jobs}
-use Rattle.jobs.specs.Jobs.{flat, view_jobs}
+use Rattle.jobs.specs.declared.Job.{Job as Stored}
+use Rattle.jobs.specs.Jobs.{job_of, flat, view_jobs}
 use Rattle.jobs.proofs.FlatLaws.{live-few, view-flat}
 use Rattle.formed.specs.Formed.{is_state_formed}
+use Rattle.formed.specs.Stored.{is_fit, keeps_rules}
 
 -- ---- Rules in another order
 
@@ -75,109 +78,68 @@ table_split b len =
     (λ h. let parts = table-parts b len h in and_both (leb b.count most_beliefs) _ (le-leb b.count 64 parts.0) parts.1)
     (λ h. let parts = and_parts (leb b.count most_beliefs) (are_beliefs (view b)) h in table-both b (leb-true b.count 64 parts.0) parts.1)
 
--- the count of a stack, and its rules
-abbrev pub is_fit : Stack → Bool
-is_fit stack = leb stack.depth most_below && is_stack (view_stack stack)
-
-fit_split : (stacks : List Stack) → all is_fit stacks ≡ (all (λ (stack : Stack). leb stack.depth most_below) stacks && all is_stack (map view_stack stacks))
+fit_split : (stacks : List Stack) → list_all is_fit stacks ≡ (list_all (λ (stack : Stack). leb stack.depth most_below) stacks && list_all is_stack (map view_stack stacks))
 fit_split stacks =
     all_both (λ (stack : Stack). leb stack.depth most_below) (λ (stack : Stack). is_stack (view_stack stack)) stacks
-    ∙ ap (λ (b : Bool). all (λ (stack : Stack). leb stack.depth most_below) stacks && b) (sym (all-mapped view_stack is_stack stacks))
+    ∙ ap (λ (b : Bool). list_all (λ (stack : Stack). leb stack.depth most_below) stacks && b) (sym (all-mapped view_stack is_stack stacks))
 
 few-live : (s : State) → length (live (view_stacks s)) ≤ 64
 few-live s = omega (arith, live-few (take (stacked_of s) s.stacks), length-take (stacked_of s) s.stacks)
 
-pub jobs-few : (s : State) (jobs : Jobs) → jobs ≡ flat (live (view_stacks s)) → jobs.count ≤ 64
-unfolding flat
-jobs-few s jobs j = rw j (few-live s)
+-- the live instances as they are stored
+pub stored_live : (s : State) (jobs : Jobs) → jobs ≡ flat (live (view_stacks s)) → view_jobs jobs ≡ live (view_stacks s)
+stored_live s jobs j = ap (λ (xs : Jobs). view_jobs xs) j ∙ view-flat (live (view_stacks s)) (few-live s)
 
 -- ---- The state's rules in the order of the code
 
-module _ (bytes : List ℕ) (s : State) (len : length s.beliefs.items ≡ 64) (taken : s.taken ≤ most_number) (made : s.made ≤ most_number) where
-  few-stacks : leb (length (view_stacks s)) 8 ≡ true
-  few-stacks =
-      let viewed : length (view_stacks s) ≡ length (take (stacked_of s) s.stacks) = length-map (take (stacked_of s) s.stacks) view_stack in
-      le-leb (length (view_stacks s)) 8 (omega (arith, length-take (stacked_of s) s.stacks))
-
-  in_order : (leb s.queued 88 && (leb s.stacked 8 && (is_table s.beliefs && (all is_fit (take (stacked_of s) s.stacks)
-      && (are_events (library_of bytes) s.taken (view_queue s)
-      && ((are_instances (library_of bytes) s.made (live (view_stacks s)) && distinct same_served (live (view_stacks s)))
-      && (all (λ (job : Job). any (is_served (library_of bytes) job) (view_queue s)) (live (view_stacks s))
-      && (all (has_goal (library_of bytes) (view_queue s)) (live (view_stacks s)) && all (has_poster (live (view_stacks s))) (view_queue s)))))))))
-      ≡ is_state_formed bytes s
-  unfolding is_state_formed counts_fit is_well_formed are_served
-  in_order =
-      rw (le-leb s.taken most_number taken, le-leb s.made most_number made, few-stacks)
-      (reordered (leb s.beliefs.count 64) (leb s.queued 88) (leb s.stacked 8) _ (are_beliefs (view s.beliefs))
-      (are_events (library_of bytes) s.taken (view_queue s)) (are_instances (library_of bytes) s.made (live (view_stacks s))) (all is_stack (view_stacks s))
-      (all (λ (job : Job). any (is_served (library_of bytes) job) (view_queue s)) (live (view_stacks s))) (distinct same_served (live (view_stacks s)))
-      (all (has_goal (library_of bytes) (view_queue s)) (live (view_stacks s))) (all (has_poster (live (view_stacks s))) (view_queue s))
-      (is_table s.beliefs) (all is_fit (take (stacked_of s) s.stacks))
-      (table_split s.beliefs len) (fit_split (take (stacked_of s) s.stacks)))
-
-  -- ---- Way by way
-
+module _ (bytes : List ℕ) (s : State) where
   pub queue_too_long : 88 < s.queued → false ≡ is_state_formed bytes s
-  queue_too_long h = rw (lt-leb s.queued 88 h) at in_order
+  unfolding is_state_formed counts_fit
+  queue_too_long h = rw (lt-leb s.queued 88 h, and-false)
 
-  pub stacks_too_many : s.queued ≤ 88 → 8 < s.stacked → false ≡ is_state_formed bytes s
-  stacks_too_many a h = rw (le-leb s.queued 88 a, lt-leb s.stacked 8 h) at in_order
+  pub stacks_too_many : 8 < s.stacked → false ≡ is_state_formed bytes s
+  unfolding is_state_formed counts_fit
+  stacks_too_many h = simp (lt-leb s.stacked 8 h, and-false)
 
-  module _ (a : s.queued ≤ 88) (b : s.stacked ≤ 8) where
-    queue_is : view_queue s ≡ take s.queued s.queue
-    queue_is = let e : min s.queued 88 ≡ s.queued = omega arith in ap (λ (n : ℕ). take n s.queue) e
+  module _ (len : length s.beliefs.items ≡ 64) (taken : s.taken ≤ most_number) (made : s.made ≤ most_number) (queued : s.queued ≤ 88) (stacked : s.stacked ≤ 8)
+      (jobs : List Stored) (j : map job_of jobs ≡ live (view_stacks s)) where
+    few-stacks : leb (length (view_stacks s)) 8 ≡ true
+    few-stacks =
+        let viewed : length (view_stacks s) ≡ length (take (stacked_of s) s.stacks) = length-map (take (stacked_of s) s.stacks) view_stack in
+        le-leb (length (view_stacks s)) 8 (omega (arith, length-take (stacked_of s) s.stacks))
 
-    stacks_are : take (stacked_of s) s.stacks ≡ take s.stacked s.stacks
-    stacks_are = let e : min s.stacked 8 ≡ s.stacked = omega arith in ap (λ (n : ℕ). take n s.stacks) e
+    -- the rules on the instances as they are stored, and on those that they mean
+    viewed_rules : keeps_rules (library_of bytes) s jobs
+        ≡ (is_table s.beliefs && (list_all is_fit (take (stacked_of s) s.stacks) && (are_events (library_of bytes) s.taken (view_queue s)
+        && ((are_instances (library_of bytes) s.made (map job_of jobs) && distinct same_served (map job_of jobs))
+        && (list_all (λ (job : Job). list_any (is_served (library_of bytes) job) (view_queue s)) (map job_of jobs)
+        && (list_all (has_goal (library_of bytes) (view_queue s)) (map job_of jobs) && list_all (has_poster (map job_of jobs)) (view_queue s)))))))
+    unfolding keeps_rules are_instances
+    viewed_rules =
+        rw (
+          and_assoc (list_all (is_instance (library_of bytes) s.made) (map job_of jobs)) (distinct same_id (map job_of jobs)) (distinct same_served (map job_of jobs)),
+          all-mapped job_of (is_instance (library_of bytes) s.made) jobs,
+          distinct-mapped job_of same_id jobs,
+          distinct-mapped job_of same_served jobs,
+          all-mapped job_of (λ (job : Job). list_any (is_served (library_of bytes) job) (view_queue s)) jobs,
+          all-mapped job_of (has_goal (library_of bytes) (view_queue s)) jobs,
+        )
 
-    pub no_table : is_table s.beliefs ≡ false → false ≡ is_state_formed bytes s
-    no_table h = rw (le-leb s.queued 88 a, le-leb s.stacked 8 b, h) at in_order
+    in_order : (leb s.queued 88 && (leb s.stacked 8 && (is_table s.beliefs && (list_all is_fit (take (stacked_of s) s.stacks)
+        && (are_events (library_of bytes) s.taken (view_queue s)
+        && ((are_instances (library_of bytes) s.made (live (view_stacks s)) && distinct same_served (live (view_stacks s)))
+        && (list_all (λ (job : Job). list_any (is_served (library_of bytes) job) (view_queue s)) (live (view_stacks s))
+        && (list_all (has_goal (library_of bytes) (view_queue s)) (live (view_stacks s)) && list_all (has_poster (live (view_stacks s))) (view_queue s)))))))))
+        ≡ is_state_formed bytes s
+    unfolding is_state_formed counts_fit is_well_formed are_served
+    in_order =
+        rw (le-leb s.taken most_number taken, le-leb s.made most_number made, few-stacks)
+        (reordered (leb s.beliefs.count 64) (leb s.queued 88) (leb s.stacked 8) _ (are_beliefs (view s.beliefs))
+        (are_events (library_of bytes) s.taken (view_queue s)) (are_instances (library_of bytes) s.made (live (view_stacks s))) (list_all is_stack (view_stacks s))
+        (list_all (λ (job : Job). list_any (is_served (library_of bytes) job) (view_queue s)) (live (view_stacks s))) (distinct same_served (live (view_stacks s)))
+        (list_all (has_goal (library_of bytes) (view_queue s)) (live (view_stacks s))) (list_all (has_poster (live (view_stacks s))) (view_queue s))
+        (is_table s.beliefs) (list_all is_fit (take (stacked_of s) s.stacks))
+        (table_split s.beliefs len) (fit_split (take (stacked_of s) s.stacks)))
 
-    module _ (table : is_table s.beliefs ≡ true) where
-      pub no_stacks : all is_fit (take s.stacked s.stacks) ≡ false → false ≡ is_state_formed bytes s
-      no_stacks h = rw (le-leb s.queued 88 a, le-leb s.stacked 8 b, table, ap (all is_fit) stacks_are ∙ h) at in_order
-
-      module _ (fit : all is_fit (take s.stacked s.stacks) ≡ true) where
-        pub no_events : are_events (library_of bytes) s.taken (take s.queued s.queue) ≡ false → false ≡ is_state_formed bytes s
-        no_events h =
-            rw (
-              le-leb s.queued 88 a,
-              le-leb s.stacked 8 b,
-              table,
-              ap (all is_fit) stacks_are ∙ fit,
-              ap (are_events (library_of bytes) s.taken) queue_is ∙ h,
-            ) at in_order
-
-        module _ (events : are_events (library_of bytes) s.taken (take s.queued s.queue) ≡ true) (jobs : Jobs) (j : jobs ≡ flat (live (view_stacks s))) where
-          jobs_are : view_jobs jobs ≡ live (view_stacks s)
-          jobs_are = ap (λ (xs : Jobs). view_jobs xs) j ∙ view-flat (live (view_stacks s)) (few-live s)
-
-          -- what is left to test
-          left : ((are_instances (library_of bytes) s.made (view_jobs jobs) && distinct same_served (view_jobs jobs))
-              && (all (λ (job : Job). any (is_served (library_of bytes) job) (take s.queued s.queue)) (view_jobs jobs)
-              && (all (has_goal (library_of bytes) (take s.queued s.queue)) (view_jobs jobs) && all (has_poster (view_jobs jobs)) (take s.queued s.queue))))
-              ≡ is_state_formed bytes s
-          left =
-              rw (jobs_are, ← queue_is)
-              (rw (
-                le-leb s.queued 88 a,
-                le-leb s.stacked 8 b,
-                table,
-                ap (all is_fit) stacks_are ∙ fit,
-                ap (are_events (library_of bytes) s.taken) queue_is ∙ events,
-              ) at in_order)
-
-          pub no_jobs : (are_instances (library_of bytes) s.made (view_jobs jobs) && distinct same_served (view_jobs jobs)) ≡ false → false ≡ is_state_formed bytes s
-          no_jobs h = rw h at left
-
-          module _ (sound : (are_instances (library_of bytes) s.made (view_jobs jobs) && distinct same_served (view_jobs jobs)) ≡ true) where
-            pub unserved : all (λ (job : Job). any (is_served (library_of bytes) job) (take s.queued s.queue)) (view_jobs jobs) ≡ false → false ≡ is_state_formed bytes s
-            unserved h = rw (sound, h) at left
-
-            module _ (served : all (λ (job : Job). any (is_served (library_of bytes) job) (take s.queued s.queue)) (view_jobs jobs) ≡ true) where
-              pub no_goals : all (has_goal (library_of bytes) (take s.queued s.queue)) (view_jobs jobs) ≡ false → false ≡ is_state_formed bytes s
-              no_goals h = rw (sound, served, h) at left
-
-              pub posters_decide : all (has_goal (library_of bytes) (take s.queued s.queue)) (view_jobs jobs) ≡ true
-                  → all (has_poster (view_jobs jobs)) (take s.queued s.queue) ≡ is_state_formed bytes s
-              posters_decide h = rw (sound, served, h) at left
+    pub rules_decide : keeps_rules (library_of bytes) s jobs ≡ is_state_formed bytes s
+    rules_decide = viewed_rules ∙ rw j (rw (le-leb s.queued 88 queued, le-leb s.stacked 8 stacked) at in_order)

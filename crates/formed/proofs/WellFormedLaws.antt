@@ -1,11 +1,11 @@
 -- The well-formed test of a library in the first bytes of an array, and its parts.
-use Prim.Native.Nat.{ℕ, ◌<◌, ◌≤◌}
+use Prim.Native.Nat.{ℕ, ◌≤◌}
 use mathlib.Core.Path.{◌≡◌}
-use mathlib.Core.Bool.{true, false}
+use mathlib.Core.Bool.{true}
 use mathlib.Core.List.{List}
 use lib.ListN.{length, take}
 use lib.Dec.{leb, eqb}
-use borrow.Author.Tests.{le-leb, lt-leb, leb-true, eq-eqb, eqb-true}
+use borrow.Author.Tests.{le-leb, leb-true, eq-eqb, eqb-true}
 use Rattle.lists.proofs.BoolLaws.{and_parts, and_both}
 use Rattle.accepted.specs.Refusal.{refusal_of}
 use Rattle.state.specs.declared.State.{State}
@@ -13,10 +13,6 @@ use Rattle.state.specs.View.{counts_fit}
 use Rattle.formed.specs.Formed.{is_state_formed, is_formed, is_well_formed_with, WellFormedState}
 
 module _ (library : List ℕ) (size : ℕ) (s : State) where
-  pub test_past : length library < size → false ≡ is_well_formed_with library size s
-  unfolding is_well_formed_with
-  test_past h = rw (lt-leb size (length library) h)
-
   pub test_own : size ≤ length library → is_formed (take size library) s ≡ is_well_formed_with library size s
   unfolding is_well_formed_with
   test_own h = rw (le-leb size (length library) h)

@@ -1,14 +1,16 @@
 // The rules for the queue.
-ghost use Rattle.std.specs.Prelude.{◌≡◌, not, ◌||◌, ◌≤◌, ◌^◌, ltb, leb, take};
+ghost use Rattle.std.specs.Prelude.{◌≡◌, ◌||◌, ◌^◌, ltb, leb};
+ghost use Rattle.std.specs.List.{list_all};
 ghost use Rattle.library.specs.Layout.{library_of};
-ghost use Rattle.lists.specs.Counts.{bit};
+ghost use Rattle.lists.specs.Search.{distinct};
 ghost use Rattle.model.specs.Live.{is_goal};
 ghost use Rattle.model.specs.Report.{told_kind};
-ghost use Rattle.model.specs.WellFormed.{is_within, is_numbered, is_event_sound, are_events};
+ghost use Rattle.model.specs.WellFormed.{is_within, is_numbered, is_event_sound, same_event, are_events};
 
 use library::contents::plan_count;
-use model::{Event, MOST_EXTERNAL, Number, Origin, TOLD};
-use state::origin::{is_goal, same_origin};
+use model::{Event, MOST_EXTERNAL, Number, Origin, is_reported};
+use state::origin::is_goal;
+use state::queue::external_count;
 
 // Plan numbers have at most this many bits in a failed set.
 const PLAN_BITS: u16 = 32;
@@ -17,10 +19,7 @@ const PLAN_BITS: u16 = 32;
 pub(crate) fn is_within(most: Number, number: Number) -> bool
     ensures { result ≡ is_within most number }
 {
-    if number < 1 {
-        return false;
-    }
-    number <= most
+    1 <= number && number <= most
 }
 
 fn is_numbered(taken: Number, origin: Origin) -> bool
@@ -28,87 +27,54 @@ fn is_numbered(taken: Number, origin: Origin) -> bool
 {
     match origin {
         Origin::External(number) => is_within(taken, number),
-        Origin::Goal {
-            instance: _,
-            state: _,
-            branch: _,
-        } => true,
+        Origin::Goal { .. } => true,
     }
-}
-
-// External events are of kinds 0..2.
-fn is_of_kind(origin: Origin, kind: u16) -> bool
-    ensures { result ≡ (is_goal origin || leb kind told_kind) }
-{
-    if is_goal(origin) {
-        return true;
-    }
-    kind <= TOLD
 }
 
 // A failed set names plans below this number.
 fn names_plans(failed: u32, plans: u16) -> bool
     ensures { result ≡ ltb failed (2 ^ plans) }
 {
-    if PLAN_BITS <= plans {
-        return true;
-    }
-    failed >> plans == 0
+    PLAN_BITS <= plans || failed >> plans == 0
 }
 
-fn is_sound(library: &[u8], taken: Number, event: Event) -> bool
-    ensures { result ≡ is_event_sound (library_of library.now) taken event }
+// An external event is of a kind that is reported, every literal is ground, and failed sets name existing plans.
+#[tactic(auto, using(library::proofs::PartLaws::length_plans), unfolding(model::specs::WellFormed::is_event_sound))]
+fn is_sound(library: &[u8], taken: Number, event: &Event) -> bool
+    ensures { result ≡ is_event_sound (library_of library.now) taken event.now }
 {
-    let origin = event.origin;
-    if !is_numbered(taken, origin) {
-        return false;
-    }
-    if !is_of_kind(origin, event.kind) {
-        return false;
-    }
-    let literal = event.literal;
-    if !literal::is_ground(literal) {
-        return false;
-    }
-    let plans = plan_count(library);
-    names_plans(event.failed, plans)
+    is_numbered(taken, event.origin)
+        && (is_goal(event.origin) || is_reported(event.kind))
+        && literal::is_ground(event.literal)
+        && names_plans(event.failed, plan_count(library))
 }
 
-// 1 for an external event, 0 for a goal.
-fn external_bit(origin: Origin) -> usize
-    ensures value { result ≡ bit (not (is_goal origin)) }
-    ensures small { result ≤ 1 }
+fn are_sound(library: &[u8], taken: Number, queue: &[Event]) -> bool
+    ensures { result ≡ list_all (is_event_sound (library_of library.now) taken) queue.now }
 {
-    if is_goal(origin) {
-        return 0;
+    queue.iter().all(|event| is_sound(library, taken, event))
+}
+
+// Whether no two events have one origin.
+fn are_distinct(queue: &[Event]) -> bool
+    ensures { result ≡ distinct same_event queue.now }
+{
+    let mut rest = queue;
+    while let [event, others @ ..] = rest {
+        if others.iter().any(|other| event.origin == other.origin) {
+            return false;
+        }
+        rest = others;
     }
-    1
+    true
 }
 
 // Each event is sound, no two have one origin, and at most 32 are external.
-pub(crate) fn are_events(library: &[u8], taken: Number, queue: [Event; 88], n: usize) -> bool
-    requires { n ≤ 88 }
-    ensures { result ≡ are_events (library_of library.now) taken (take n queue) }
+#[tactic(auto, unfolding(model::specs::WellFormed::are_events))]
+pub(crate) fn are_events(library: &[u8], taken: Number, queue: &[Event]) -> bool
+    ensures { result ≡ are_events (library_of library.now) taken queue.now }
 {
-    let mut externals: usize = 0;
-    let mut i: usize = 0;
-    while i < n {
-        let event = queue[i];
-        i += 1;
-        if !is_sound(library, taken, event) {
-            return false;
-        }
-        let origin = event.origin;
-        externals += external_bit(origin);
-        let mut j = i;
-        while j < n {
-            let other = queue[j];
-            j += 1;
-            let other_origin = other.origin;
-            if same_origin(origin, other_origin) {
-                return false;
-            }
-        }
-    }
-    externals <= MOST_EXTERNAL
+    are_sound(library, taken, queue)
+        && are_distinct(queue)
+        && external_count(queue) <= MOST_EXTERNAL
 }

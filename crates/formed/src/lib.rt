@@ -2,13 +2,15 @@
 #![tactic(auto)]
 
 ghost use Rattle.std.specs.Prelude.{◌≡◌};
+ghost use Rattle.library.specs.Layout.{library_of};
+ghost use Rattle.formed.specs.Stored.{keeps_rules};
 ghost use Rattle.formed.specs.Formed.{is_state_formed, is_formed, is_well_formed_with};
 
 use self::events::are_events;
 use self::instances::are_jobs;
 use self::served::{all_served, have_goals, have_posters};
 use self::stacks::are_stacks;
-use jobs::live_jobs;
+use jobs::{Job, live_jobs};
 use state::{MOST_QUEUED, MOST_STACKS, State};
 
 mod events; // events.rt: the rules for the queue
@@ -16,60 +18,44 @@ mod instances; // instances.rt: the rules for each instance, and that no two are
 mod served; // served.rt: who serves what, and which goal is whose
 mod stacks; // stacks.rt: the rules for each stack
 
+// Whether the state keeps every rule; `jobs` are its live instances.
+#[tactic(auto, unfolding(crate::specs::Stored::keeps_rules))]
+fn keeps_rules(library: &[u8], s: &State, jobs: &[Job]) -> bool
+    ensures { result ≡ keeps_rules (library_of library.now) s.now jobs.now }
+{
+    let queue = s.events();
+    belief::is_table(s.beliefs)
+        && are_stacks(s.standing())
+        && are_events(library, s.taken, queue)
+        && are_jobs(library, s.made, jobs)
+        && all_served(library, queue, jobs)
+        && have_goals(library, queue, jobs)
+        && have_posters(queue, jobs)
+}
+
 // Whether every count is within its array, and the state that the arrays mean keeps every rule.
 pub fn is_state_formed(library: &[u8], s: State) -> bool
     ensures { result ≡ is_state_formed library.now s }
 {
-    let queued = s.queued;
-    if MOST_QUEUED < queued {
+    if MOST_QUEUED < s.queued || MOST_STACKS < s.stacked {
         return false;
     }
-    let stacked = s.stacked;
-    if MOST_STACKS < stacked {
-        return false;
-    }
-    let beliefs = s.beliefs;
-    if !belief::is_table(beliefs) {
-        return false;
-    }
-    let stacks = s.stacks;
-    if !are_stacks(stacks, stacked) {
-        return false;
-    }
-    let queue = s.queue;
-    if !are_events(library, s.taken, queue, queued) {
-        return false;
-    }
-    let jobs = live_jobs(stacks, stacked);
-    if !are_jobs(library, s.made, jobs) {
-        return false;
-    }
-    if !all_served(library, queue, queued, jobs) {
-        return false;
-    }
-    if !have_goals(library, queue, queued, jobs) {
-        return false;
-    }
-    have_posters(queue, queued, jobs)
+    let live = live_jobs(&s);
+    keeps_rules(library, &s, live.as_slice())
 }
 
 // Whether the library is accepted and the state formed.
+#[tactic(auto, unfolding(crate::specs::Formed::is_formed))]
 pub fn is_formed(library: &[u8], s: State) -> bool
     ensures { result ≡ is_formed library.now s }
 {
-    if accepted::refusal(library) != 0 {
-        return false;
-    }
-    is_state_formed(library, s)
+    accepted::refusal(library).is_ok() && is_state_formed(library, s)
 }
 
 // Whether the library in the first `length` bytes is accepted and the state well formed.
+#[tactic(auto, unfolding(crate::specs::Formed::is_well_formed_with))]
 pub fn is_well_formed(library: &[u8], length: usize, s: State) -> bool
     ensures { result ≡ is_well_formed_with library.now length s }
 {
-    if library.len() < length {
-        return false;
-    }
-    let own = &library[..length];
-    is_formed(own, s)
+    length <= library.len() && is_formed(&library[..length], s)
 }

@@ -1,139 +1,87 @@
 // Who serves what, and which goal is whose.
-ghost use Rattle.std.specs.Prelude.{◌≡◌, ◌≤◌, take};
-ghost use Rattle.lists.specs.Search.{any, all};
+ghost use Rattle.std.specs.Prelude.{◌≡◌, map};
+ghost use Rattle.std.specs.List.{list_any, list_all};
 ghost use Rattle.library.specs.Layout.{library_of};
 ghost use Rattle.model.specs.WellFormed.{is_served, is_goal_for, has_goal, is_posted, has_poster};
-ghost use Rattle.jobs.specs.Jobs.{job_of, view_jobs};
+ghost use Rattle.jobs.specs.Jobs.{job_of};
 
+use jobs::Job;
 use jobs::place::{branch, trigger_kind};
-use jobs::{Job, Jobs};
-use model::{Event, Instance, Origin};
-use state::origin::{goal_of, is_goal, is_suspended, same_origin};
+use model::{Event, Instance, Origin, Status};
+use state::origin::{goal_of, is_goal};
 
 // The event that an instance serves: of its trigger's kind, its plan not among the failed.
-fn is_served(library: &[u8], job: Job, event: Event) -> bool
-    ensures { result ≡ is_served (library_of library.now) (job_of job) event }
+#[tactic(auto, unfolding(model::specs::WellFormed::is_served, model::specs::Live::same_origin))]
+fn is_served(library: &[u8], job: &Job, event: &Event) -> bool
+    ensures { result ≡ is_served (library_of library.now) (job_of job.now) event.now }
 {
-    let served = job.origin;
-    let origin = event.origin;
-    if !same_origin(served, origin) {
-        return false;
-    }
-    let x = job.instance;
-    let kind = trigger_kind(library, x);
-    if kind != event.kind {
-        return false;
-    }
-    !situation::failed::has(event.failed, x.plan)
+    job.origin == event.origin
+        && trigger_kind(library, job.instance) == event.kind
+        && !situation::failed::has(event.failed, job.instance.plan)
 }
 
-// Each instance serves a queued event.
-pub(crate) fn all_served(library: &[u8], queue: [Event; 88], n: usize, jobs: Jobs) -> bool
-    requires { (n ≤ 88) × (jobs.count ≤ 64) }
-    ensures { result ≡ all (λ job. any (is_served (library_of library.now) job) (take n queue)) (view_jobs jobs) }
+// An instance serves a queued event.
+fn has_event(library: &[u8], queue: &[Event], job: &Job) -> bool
+    ensures { result ≡ list_any (is_served (library_of library.now) (job_of job.now)) queue.now }
 {
-    let count = jobs.count;
-    let mut i: usize = 0;
-    'jobs: while i < count {
-        let job = jobs.items[i];
-        i += 1;
-        let mut j: usize = 0;
-        while j < n {
-            let event = queue[j];
-            j += 1;
-            if is_served(library, job, event) {
-                continue 'jobs;
-            }
-        }
-        return false;
-    }
-    true
+    queue.iter().any(|event| is_served(library, job, event))
 }
 
 // The goal of an instance: its kind and literal are the branch's under the instance's environment.
-fn is_goal_for(library: &[u8], x: Instance, event: Event) -> bool
-    ensures { result ≡ is_goal_for (library_of library.now) x event }
+#[tactic(auto, unfolding(model::specs::WellFormed::is_goal_for, model::specs::Live::same_origin))]
+fn is_goal_for(library: &[u8], x: Instance, event: &Event) -> bool
+    ensures { result ≡ is_goal_for (library_of library.now) x event.now }
 {
-    let goal = goal_of(x);
-    let origin = event.origin;
-    if !same_origin(goal, origin) {
+    if goal_of(x) != event.origin {
         return false;
     }
     let tried = branch(library, x);
-    if tried.kind != event.kind {
-        return false;
-    }
-    let env = x.env;
-    let literal = tried.literal;
-    let posted = literal::instantiated(env, literal);
-    let queued = event.literal;
-    literal::is_same(posted, queued)
+    tried.kind == event.kind
+        && literal::is_same(literal::instantiated(x.env, tried.literal), event.literal)
 }
 
-// Each suspended instance has its goal in the queue.
-pub(crate) fn have_goals(library: &[u8], queue: [Event; 88], n: usize, jobs: Jobs) -> bool
-    requires { (n ≤ 88) × (jobs.count ≤ 64) }
-    ensures { result ≡ all (has_goal (library_of library.now) (take n queue)) (view_jobs jobs) }
+// A suspended instance has its goal in the queue.
+#[tactic(auto, unfolding(model::specs::WellFormed::has_goal))]
+fn has_goal(library: &[u8], queue: &[Event], job: &Job) -> bool
+    ensures { result ≡ has_goal (library_of library.now) queue.now (job_of job.now) }
 {
-    let count = jobs.count;
-    let mut i: usize = 0;
-    'jobs: while i < count {
-        let job = jobs.items[i];
-        i += 1;
-        let x = job.instance;
-        let status = x.status;
-        if !is_suspended(status) {
-            continue 'jobs;
-        }
-        let mut j: usize = 0;
-        while j < n {
-            let event = queue[j];
-            j += 1;
-            if is_goal_for(library, x, event) {
-                continue 'jobs;
-            }
-        }
-        return false;
-    }
-    true
+    let x = job.instance;
+    x.status != Status::Suspended || queue.iter().any(|event| is_goal_for(library, x, event))
 }
 
 // The goal is that of this suspended instance.
-fn is_posted(origin: Origin, job: Job) -> bool
-    ensures { result ≡ is_posted origin (job_of job) }
+#[tactic(auto, unfolding(model::specs::Live::same_origin))]
+fn is_posted(origin: Origin, job: &Job) -> bool
+    ensures { result ≡ is_posted origin (job_of job.now) }
 {
-    let x = job.instance;
-    let status = x.status;
-    if !is_suspended(status) {
-        return false;
-    }
-    let goal = goal_of(x);
-    same_origin(origin, goal)
+    job.instance.status == Status::Suspended && origin == goal_of(job.instance)
+}
+
+// A queued goal is that of some suspended instance.
+fn has_poster(jobs: &[Job], event: &Event) -> bool
+    ensures { result ≡ has_poster (map job_of jobs.now) event.now }
+{
+    let origin = event.origin;
+    !is_goal(origin) || jobs.iter().any(|job| is_posted(origin, job))
+}
+
+// Each instance serves a queued event.
+pub(crate) fn all_served(library: &[u8], queue: &[Event], jobs: &[Job]) -> bool
+    ensures { result ≡ list_all (λ job. list_any (is_served (library_of library.now) (job_of job)) queue.now) jobs.now }
+{
+    jobs.iter().all(|job| has_event(library, queue, job))
+}
+
+// Each suspended instance has its goal in the queue.
+pub(crate) fn have_goals(library: &[u8], queue: &[Event], jobs: &[Job]) -> bool
+    ensures { result ≡ list_all (λ job. has_goal (library_of library.now) queue.now (job_of job)) jobs.now }
+{
+    jobs.iter().all(|job| has_goal(library, queue, job))
 }
 
 // Each queued goal is that of some suspended instance.
-pub(crate) fn have_posters(queue: [Event; 88], n: usize, jobs: Jobs) -> bool
-    requires { (n ≤ 88) × (jobs.count ≤ 64) }
-    ensures { result ≡ all (has_poster (view_jobs jobs)) (take n queue) }
+pub(crate) fn have_posters(queue: &[Event], jobs: &[Job]) -> bool
+    ensures { result ≡ list_all (has_poster (map job_of jobs.now)) queue.now }
 {
-    let count = jobs.count;
-    let mut i: usize = 0;
-    'events: while i < n {
-        let event = queue[i];
-        i += 1;
-        let origin = event.origin;
-        if !is_goal(origin) {
-            continue 'events;
-        }
-        let mut j: usize = 0;
-        while j < count {
-            let job = jobs.items[j];
-            j += 1;
-            if is_posted(origin, job) {
-                continue 'events;
-            }
-        }
-        return false;
-    }
-    true
+    queue.iter().all(|event| has_poster(jobs, event))
 }

@@ -1,31 +1,20 @@
 // The rules for each stack.
-ghost use Rattle.std.specs.Prelude.{◌≡◌, ◌&&◌, ◌≤◌, leb, take};
-ghost use Rattle.lists.specs.Search.{all};
+ghost use Rattle.std.specs.Prelude.{◌≡◌, ◌&&◌, leb};
+ghost use Rattle.std.specs.List.{list_all};
 ghost use Rattle.model.specs.Instance.{is_suspended};
 ghost use Rattle.model.specs.WellFormed.{is_stack};
-ghost use Rattle.state.specs.View.{most_below, down, view_stack};
+ghost use Rattle.state.specs.View.{most_below, view_stack};
 
-use state::origin::is_suspended;
+use model::{Instance, Status};
 use state::{MOST_BELOW, Stack};
 
-// All instances below the top are suspended.
-fn are_suspended(stack: Stack) -> bool
-    requires { stack.depth ≤ 7 }
-    ensures { result ≡ all (λ x. is_suspended x.status) (down stack.depth stack.below) }
+fn are_suspended(instances: &[Instance]) -> bool
+    ensures { result ≡ list_all (λ x. is_suspended x.status) instances.now }
 {
-    let mut depth = stack.depth;
-    while 0 < depth {
-        depth -= 1;
-        let x = stack.below[depth];
-        let status = x.status;
-        if !is_suspended(status) {
-            return false;
-        }
-    }
-    true
+    instances.iter().all(|x| x.status == Status::Suspended)
 }
 
-// The count is within its array, and the stack keeps the rules: the eighth instance is not suspended.
+// The count is within its array; all instances below the top are suspended, and of a full stack the top is not.
 fn is_stack(stack: Stack) -> bool
     ensures { result ≡ (leb stack.depth most_below && is_stack (view_stack stack)) }
 {
@@ -33,28 +22,12 @@ fn is_stack(stack: Stack) -> bool
     if MOST_BELOW < depth {
         return false;
     }
-    if !are_suspended(stack) {
-        return false;
-    }
-    if depth < MOST_BELOW {
-        return true;
-    }
-    let top = stack.top;
-    let status = top.status;
-    !is_suspended(status)
+    are_suspended(&stack.below[..depth])
+        && (depth < MOST_BELOW || stack.top.status != Status::Suspended)
 }
 
-pub(crate) fn are_stacks(stacks: [Stack; 8], n: usize) -> bool
-    requires { n ≤ 8 }
-    ensures { result ≡ all (λ stack. leb stack.depth most_below && is_stack (view_stack stack)) (take n stacks) }
+pub(crate) fn are_stacks(stacks: &[Stack]) -> bool
+    ensures { result ≡ list_all (λ stack. leb stack.depth most_below && is_stack (view_stack stack)) stacks.now }
 {
-    let mut i: usize = 0;
-    while i < n {
-        let stack = stacks[i];
-        i += 1;
-        if !is_stack(stack) {
-            return false;
-        }
-    }
-    true
+    stacks.iter().all(|stack| is_stack(*stack))
 }

@@ -10,7 +10,7 @@ use lib.Dec.{lit<}
 use lib.ListN.{length, length-append, take, set}
 use lib.Seq.{take-suc-set}
 use Rattle.lists.specs.Counts.{each}
-use Rattle.lists.specs.Search.{all}
+use Rattle.std.specs.List.{list_all}
 use Rattle.lists.proofs.BoolLaws.{and_parts}
 use Rattle.library.specs.Bytes.{u16_at, items}
 use Rattle.image.specs.Words.{word_size, word_bytes, list_bytes, list_at}
@@ -31,12 +31,12 @@ row-items read width (suc n) at = rw (row-items read width n (at + width))
 
 module _ {A : Type 0} {write : A → List ℕ} {read : List ℕ → ℕ → A} {size : List ℕ → ℕ → ℕ} {good : A
     → Bool} (codec : Codec A write read size good) where
-  pub row_back : (before after : List ℕ) (xs : List A) → all good xs ≡ true
+  pub row_back : (before after : List ℕ) (xs : List A) → list_all good xs ≡ true
       → row (read (before ++ (each write xs ++ after))) (size (before ++ (each write xs ++ after))) (length xs) (length before) ≡ xs
-  unfolding row all
+  unfolding row
   row_back before after [] h = refl
   row_back before after (x ∷ xs) h =
-      let g = and_parts (good x) (all good xs) h in
+      let g = and_parts (good x) (list_all good xs) h in
       let regroup : before ++ ((write x ++ each write xs) ++ after) ≡ before ++ (write x ++ (each write xs ++ after)) = simp append_assoc in
       let moved : before ++ (write x ++ (each write xs ++ after)) ≡ (before ++ write x) ++ (each write xs ++ after) =
       sym (append_assoc before (write x) (each write xs ++ after)) in
@@ -49,7 +49,7 @@ module _ {A : Type 0} {write : A → List ℕ} {read : List ℕ → ℕ → A} {
       subst⁻¹ (λ (w : List ℕ). row (read w) (size w) (suc (length xs)) (length before) ≡ x ∷ xs) regroup (rw (first, width, next, rest))
 
   -- a list: its count, then its items
-  pub rows_back : (most : ℕ) (before after : List ℕ) (xs : List A) → length xs ≤ most → all good xs ≡ true
+  pub rows_back : (most : ℕ) (before after : List ℕ) (xs : List A) → length xs ≤ most → list_all good xs ≡ true
       → (image : List ℕ) → image ≡ before ++ (list_bytes write xs ++ after)
       → row (read image) (size image) (min (u16_at image (length before)) most) (length before + word_size) ≡ xs
   rows_back most before after xs few h image e =
@@ -66,12 +66,12 @@ module _ {A : Type 0} {write : A → List ℕ} {read : List ℕ → ℕ → A} {
 module _ {A : Type 0} {write : A → List ℕ} {read : List ℕ → ℕ → A} {width : ℕ} {good : A
     → Bool} (codec : Codec A write read (λ bytes at. width) good) where
   -- items of one size are read back
-  pub items_back : (before after : List ℕ) (xs : List A) → all good xs ≡ true
+  pub items_back : (before after : List ℕ) (xs : List A) → list_all good xs ≡ true
       → items (read (before ++ (each write xs ++ after))) width (length xs) (length before) ≡ xs
   items_back before after xs h =
       sym (row-items (read (before ++ (each write xs ++ after))) width (length xs) (length before)) ∙ row_back codec before after xs h
 
-  pub list_back : (most : ℕ) (before after : List ℕ) (xs : List A) → length xs ≤ most → all good xs ≡ true
+  pub list_back : (most : ℕ) (before after : List ℕ) (xs : List A) → length xs ≤ most → list_all good xs ≡ true
       → (image : List ℕ) → image ≡ before ++ (list_bytes write xs ++ after) → list_at read width most image (length before) ≡ xs
   list_back most before after xs few h image e =
       sym (row-items (read image) width (min (u16_at image (length before)) most) (length before + word_size))
@@ -80,15 +80,14 @@ module _ {A : Type 0} {write : A → List ℕ} {read : List ℕ → ℕ → A} {
 -- ---- How many bytes
 
 module _ {A : Type 0} (write : A → List ℕ) (width : ℕ) (good : A → Bool) (low : (x : A) → good x ≡ true → length (write x) ≤ width) where
-  each-few : (xs : List A) → all good xs ≡ true → length (each write xs) ≤ width * length xs
-  unfolding all
+  each-few : (xs : List A) → list_all good xs ≡ true → length (each write xs) ≤ width * length xs
   each-few [] h = omega arith
   each-few (x ∷ xs) h =
-      let g = and_parts (good x) (all good xs) h in
+      let g = and_parts (good x) (list_all good xs) h in
       rw mul-suc (omega (arith, length-append (write x) (each write xs), low x g.0, each-few xs g.1))
 
   -- a list of at most so many items
-  pub list_few : (most : ℕ) (xs : List A) → length xs ≤ most → all good xs ≡ true → length (list_bytes write xs) ≤ word_size + width * most
+  pub list_few : (most : ℕ) (xs : List A) → length xs ≤ most → list_all good xs ≡ true → length (list_bytes write xs) ≤ word_size + width * most
   list_few most xs few h =
       let all_of : width * length xs ≤ width * most = mul-le-mul_left width few in
       omega (arith, length-append (word_bytes (length xs)) (each write xs), each-few xs h, all_of)

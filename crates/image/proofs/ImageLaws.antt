@@ -9,7 +9,7 @@ use lib.ListN.{length, length-append, get_or}
 use lib.Seq.{take_at, drop_at}
 use borrow.Author.Tests.{le-leb, leb-true}
 use Rattle.lists.specs.Counts.{each}
-use Rattle.lists.specs.Search.{all}
+use Rattle.std.specs.List.{list_all}
 use Rattle.lists.proofs.BoolLaws.{and_parts, and_both}
 use Rattle.literal.specs.declared.Literal.{Literal}
 use Rattle.belief.specs.Beliefs.{most_beliefs}
@@ -49,8 +49,7 @@ any l = true
 literal_codec : Codec Literal literal_bytes literal_at (λ bytes at. literal_size) any
 literal_codec = record { back = λ before after l k. literal_back before after l; sized = λ before after l k. refl }
 
-all_any : (ls : List Literal) → all any ls ≡ true
-unfolding all
+all_any : (ls : List Literal) → list_all any ls ≡ true
 all_any [] = refl
 all_any (l ∷ ls) = all_any ls
 
@@ -60,9 +59,9 @@ pub record Storable (form : Form) (library : List ℕ) (s : AgentState) : Type 0
   pub size : length library ≤ most_bytes
   pub beliefs : length s.beliefs ≤ most_beliefs
   pub queued : length s.queue ≤ most_queued
-  pub events : all (is_event_storable form) s.queue ≡ true
+  pub events : list_all (is_event_storable form) s.queue ≡ true
   pub stacked : length s.stacks ≤ most_stacks
-  pub storable : all (is_stack_storable form) s.stacks ≡ true
+  pub storable : list_all (is_stack_storable form) s.stacks ≡ true
   pub taken : holds_number form s.taken ≡ true
   pub made : holds_number form s.made ≡ true
 
@@ -73,9 +72,9 @@ module _ (form : Form) (library : List ℕ) (s : AgentState) where
       and_both (leb (length library) most_bytes) _ (le-leb _ _ h.size)
       (and_both (leb (length s.beliefs) most_beliefs) _ (le-leb _ _ h.beliefs)
       (and_both (leb (length s.queue) most_queued) _ (le-leb _ _ h.queued)
-      (and_both (all (is_event_storable form) s.queue) _ h.events
+      (and_both (list_all (is_event_storable form) s.queue) _ h.events
       (and_both (leb (length s.stacks) most_stacks) _ (le-leb _ _ h.stacked)
-      (and_both (all (is_stack_storable form) s.stacks) _ h.storable
+      (and_both (list_all (is_stack_storable form) s.stacks) _ h.storable
       (and_both (holds_number form s.taken) (holds_number form s.made) h.taken h.made))))))
 
   pub holds_storable : can_hold form library s ≡ true → Storable form library s
@@ -84,9 +83,9 @@ module _ (form : Form) (library : List ℕ) (s : AgentState) where
       let a = and_parts (leb (length library) most_bytes) _ e in
       let b = and_parts (leb (length s.beliefs) most_beliefs) _ a.1 in
       let c = and_parts (leb (length s.queue) most_queued) _ b.1 in
-      let d = and_parts (all (is_event_storable form) s.queue) _ c.1 in
+      let d = and_parts (list_all (is_event_storable form) s.queue) _ c.1 in
       let f = and_parts (leb (length s.stacks) most_stacks) _ d.1 in
-      let g = and_parts (all (is_stack_storable form) s.stacks) _ f.1 in
+      let g = and_parts (list_all (is_stack_storable form) s.stacks) _ f.1 in
       let k = and_parts (holds_number form s.taken) (holds_number form s.made) g.1 in
       record {
         size = leb-true _ _ a.0;

@@ -1,12 +1,14 @@
 -- Laws of reading the parts of an image: the library copied byte by byte, and the state from its bodies.
-use Prim.Native.Nat.{ℕ, ◌+◌, ◌<◌, min}
-use native.Mathlib.Numerals.{add-one}
+use Prim.Native.Nat.{ℕ, ◌+◌, ◌-◌, ◌<◌, ◌≤◌, min}
 use native.Mathlib.Omega.{arith}
 use mathlib.Core.Path.{◌≡◌, ap, sym, subst, ◌∙◌}
-use mathlib.Core.List.{List, [], ◌∷◌, ◌++◌}
+use mathlib.Core.List.{List}
 use lib.Dec.{leb}
-use lib.ListN.{length, take, drop, get_or, set, length-drop}
-use lib.Seq.{take-suc-set, take-suc, take_all, get_or-drop}
+use lib.ListN.{length, take, drop, length-take, length-drop}
+use lib.Seq.{take_all}
+use borrow.Rule.Slice.PartMut.{put_mid, same_len_mid}
+use Rattle.std.specs.List.{slice_range}
+use Rattle.std.proofs.lemmas.Slice.{take-put_mid}
 use borrow.Author.Tests.{leb-true, leb-false}
 use Rattle.lists.proofs.BoolLaws.{by_cases}
 use Rattle.belief.specs.Beliefs.{view}
@@ -28,13 +30,16 @@ use Rattle.image.specs.Reads.{ReadsStacks, size_in, ReadsState}
 
 -- ---- The library
 
--- one byte more is copied
-pub copy_next : (from : ℕ) (image bytes : List ℕ) (i : ℕ) → i < length bytes → i < length (drop from image)
-    → take i bytes ≡ take i (drop from image)
-    → take (i + 1) (set bytes i (get_or image (from + i) 0)) ≡ take (i + 1) (drop from image)
-copy_next from image bytes i p q e =
-    rw (add-one i) (take-suc-set bytes i (get_or image (from + i) 0) p ∙ ap (λ (l : List ℕ). l ++ (get_or image (from + i) 0 ∷ [])) e
-    ∙ ap (λ (b : ℕ). take i (drop from image) ++ (b ∷ [])) (sym (get_or-drop from image i 0)) ∙ sym (take-suc (drop from image) i 0 q))
+-- its bytes, as the code puts them in front of an array
+pub copied_part : (from size : ℕ) (image bytes part : List ℕ) → part ≡ slice_range image from (from + size) → length part ≡ size
+    → take size (put_mid 0 size bytes part) ≡ take size (drop from image)
+copied_part from size image bytes part is long =
+    let n : from + size - from ≡ size = omega arith in
+    take-put_mid 0 size bytes part size (omega (arith, long)) (omega arith) ∙ is ∙ rw n
+
+pub copied_places : (size : ℕ) (bytes part : List ℕ) → length bytes ≡ most_bytes → length part ≡ size → size ≤ most_bytes
+    → length (put_mid 0 size bytes part) ≡ most_bytes
+copied_places size bytes part full long few = same_len_mid 0 size bytes part (rw length-take (omega (arith, long, full))) ∙ full
 
 -- no more can be taken than there are
 pub take-least : (n : ℕ) (l : List ℕ) → take (min n (length l)) l ≡ take n l

@@ -8,7 +8,7 @@ use mathlib.Core.List.{List, [], ◌∷◌, reverse, reverse-reverse}
 use lib.Dec.{eqb, leb}
 use lib.ListN.{length, drop, length-take, length-reverse}
 use borrow.Author.Tests.{lt-ltb, le-leb, eq-eqb}
-use Rattle.lists.specs.Search.{all}
+use Rattle.std.specs.List.{list_all}
 use Rattle.lists.proofs.BoolLaws.{by_cases, and_both}
 use Rattle.lists.proofs.TestLaws.{all-joined}
 use Rattle.literal.specs.Literal.{first_variable, is_constant}
@@ -65,8 +65,8 @@ module _ (form : Form) (image : List ℕ) where
       let number = number_of (u16_at image at) (u16_at image (at + 2)) (u16_at image (at + 4)) (number_at form image (at + event_fields)) in
       and_both (is_kind (event_at form image at)) _ (kind_low (u16_at image (at + 6))) (rw number (number_read (at + event_fields)))
 
-  events-read : (n at : ℕ) → all (is_event_storable form) (items (event_at form image) (event_size form) n at) ≡ true
-  unfolding all items
+  events-read : (n at : ℕ) → list_all (is_event_storable form) (items (event_at form image) (event_size form) n at) ≡ true
+  unfolding items
   events-read zero at = refl
   events-read (suc n) at = and_both (is_event_storable form (event_at form image at)) _ (event_read at) (events-read n (at + event_size form))
 
@@ -94,8 +94,8 @@ module _ (form : Form) (image : List ℕ) where
   unfolding instance_at
   instance-read at = and_both (is_env (env_at image (at + 8))) _ (env_read (at + 8)) (number_read (at + instance_fields))
 
-  instances-read : (n at : ℕ) → all (is_storable form) (items (instance_at form image) (instance_size form) n at) ≡ true
-  unfolding all items
+  instances-read : (n at : ℕ) → list_all (is_storable form) (items (instance_at form image) (instance_size form) n at) ≡ true
+  unfolding items
   instances-read zero at = refl
   instances-read (suc n) at =
       and_both (is_storable form (instance_at form image at)) _ (instance-read at) (instances-read n (at + instance_size form))
@@ -103,24 +103,24 @@ module _ (form : Form) (image : List ℕ) where
   -- ---- Stacks
 
   stack-read : (at : ℕ) → is_stack_storable form (stack_at form image at) ≡ true
-  unfolding all stack_at upward depth_at
+  unfolding stack_at upward depth_at
   stack-read at =
       let below = items (instance_at form image) (instance_size form) (depth_at image at) (at + stack_fields form) in
       let many : length (reverse below) ≡ depth_at image at =
       length-reverse below ∙ length-items (instance_at form image) (instance_size form) (depth_at image at) (at + stack_fields form) in
       let low : length (reverse below) ≤ most_below = omega (arith, many) in
-      let lower : all (is_storable form) (reverse (reverse below)) ≡ true =
-      subst⁻¹ (λ (xs : List Instance). all (is_storable form) xs ≡ true) (reverse-reverse below)
+      let lower : list_all (is_storable form) (reverse (reverse below)) ≡ true =
+      subst⁻¹ (λ (xs : List Instance). list_all (is_storable form) xs ≡ true) (reverse-reverse below)
       (instances-read (depth_at image at) (at + stack_fields form)) in
       and_both (leb (length (reverse below)) most_below) _ (le-leb _ most_below low)
-      (and_both (all (is_storable form) (upward (stack_at form image at))) _
+      (and_both (list_all (is_storable form) (upward (stack_at form image at))) _
       (all-joined (is_storable form) (reverse (reverse below)) ((stack_at form image at).top ∷ []) lower
       (and_both (is_storable form (stack_at form image at).top) true
       (instance-read (at + stack_fields form + instance_size form * depth_at image at)) refl))
       (number_read (at + word_size)))
 
-  stacks-read : (n at : ℕ) → all (is_stack_storable form) (row (stack_at form image) (stack_size_at form image) n at) ≡ true
-  unfolding all row
+  stacks-read : (n at : ℕ) → list_all (is_stack_storable form) (row (stack_at form image) (stack_size_at form image) n at) ≡ true
+  unfolding row
   stacks-read zero at = refl
   stacks-read (suc n) at =
       and_both (is_stack_storable form (stack_at form image at)) _ (stack-read at) (stacks-read n (at + stack_size_at form image at))

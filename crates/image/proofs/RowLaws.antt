@@ -9,9 +9,10 @@ use lib.Dec.{leb}
 use lib.ListN.{length, take, get_or, set, length-reverse}
 use lib.Seq.{take-suc, take-suc-set, length-take-le}
 use Rattle.lists.specs.Counts.{each}
-use Rattle.lists.specs.Search.{all}
+use Rattle.std.specs.List.{list_all}
 use Rattle.lists.proofs.TestLaws.{all-joined}
-use Rattle.library.specs.Bytes.{items}
+use Rattle.literal.specs.Literal.{first_variable}
+use Rattle.library.specs.Bytes.{u16_at, items}
 use Rattle.model.specs.declared.Instance.{Instance}
 use Rattle.model.specs.State.{Intention}
 use Rattle.state.specs.declared.Stack.{Stack}
@@ -19,6 +20,7 @@ use Rattle.state.specs.View.{most_below, no_instance, depth_of, down, view_stack
 use Rattle.image.specs.declared.form.Form.{Form}
 use Rattle.image.specs.Words.{word_size, word_bytes, number_bytes, number_at}
 use Rattle.image.specs.Rows.{row, row_end}
+use Rattle.image.specs.StackImage.{entry_of, entries_at}
 use Rattle.image.specs.StackImage.{instance_size, instance_bytes, instance_at, upward}
 use Rattle.image.specs.StackImage.{stack_fields, stack_size, stack_bytes, depth_at, stack_at, stack_size_at}
 use Rattle.image.specs.Reads.{ReadsStack}
@@ -44,6 +46,24 @@ pub each_map : {A B : Type 0} (write : B → List ℕ) (f : A → B) (xs : List 
 each_map write f [] = refl
 each_map write f (x ∷ xs) = ap (λ (l : List ℕ). write (f x) ++ l) (each_map write f xs)
 
+-- ---- Entries of an environment, read one after the other
+
+entries_more : (bytes : List ℕ) (variable n at : ℕ) → entries_at bytes variable (n + 1) at
+    ≡ entries_at bytes variable n at ++ (entry_of (variable + n) (u16_at bytes (at + word_size * n)) ∷ [])
+unfolding entries_at
+entries_more bytes variable zero at = let v : variable + 0 ≡ variable = omega arith in let a : at + word_size * 0 ≡ at = omega arith in rw (v, a)
+entries_more bytes variable (suc n) at =
+    let v : suc variable + n ≡ variable + suc n = omega arith in
+    let a : at + word_size + word_size * n ≡ at + word_size * suc n = omega arith in
+    let s : suc n + 1 ≡ suc (n + 1) = omega arith in
+    rw s (ap (λ (rest : List ℕ). entry_of variable (u16_at bytes at) ∷ rest)
+    (entries_more bytes (suc variable) n (at + word_size) ∙ ap₂ (λ (k o : ℕ). entries_at bytes (suc variable) n (at + word_size) ++ (entry_of k (u16_at bytes o) ∷ [])) v a))
+
+pub entry_next : (bytes terms : List ℕ) (i term at : ℕ) → i < length terms → term ≡ entry_of (first_variable + i) (u16_at bytes (at + word_size * i))
+    → take i terms ≡ entries_at bytes first_variable i at → take (i + 1) (set terms i term) ≡ entries_at bytes first_variable (i + 1) at
+entry_next bytes terms i term at low is read =
+    rw (add-one i) (take-suc-set terms i term low) ∙ ap₂ (λ (l : List ℕ) (t : ℕ). l ++ (t ∷ [])) read is ∙ sym (entries_more bytes first_variable i at)
+
 -- ---- Rows
 
 module _ {A : Type 0} (read : ℕ → A) (size : ℕ → ℕ) where
@@ -66,9 +86,8 @@ read_more read size at xs i x h e done =
     ∙ ap₂ (λ (ys : List Intention) (y : Intention). ys ++ (y ∷ [])) done e ∙ sym (row_last read size i at))
 
 pub depths_more : (xs : List Stack) (i : ℕ) (x : Stack) → i < length xs → leb x.depth most_below ≡ true
-    → all (λ (stack : Stack). leb stack.depth most_below) (take i xs) ≡ true
-    → all (λ (stack : Stack). leb stack.depth most_below) (take (i + 1) (set xs i x)) ≡ true
-unfolding all
+    → list_all (λ (stack : Stack). leb stack.depth most_below) (take i xs) ≡ true
+    → list_all (λ (stack : Stack). leb stack.depth most_below) (take (i + 1) (set xs i x)) ≡ true
 depths_more xs i x h e done =
     rw (add-one i, take-suc-set xs i x h) (all-joined (λ (stack : Stack). leb stack.depth most_below) (take i xs) (x ∷ []) done (rw e))
 

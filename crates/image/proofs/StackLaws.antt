@@ -9,7 +9,7 @@ use lib.Dec.{eqb, leb, lit<}
 use lib.ListN.{length, length-append, length-reverse, get_or}
 use borrow.Author.Tests.{eqb-true, leb-true}
 use Rattle.lists.specs.Counts.{each}
-use Rattle.lists.specs.Search.{all}
+use Rattle.std.specs.List.{list_all}
 use Rattle.lists.proofs.BoolLaws.{and_parts, by_cases}
 use Rattle.literal.specs.declared.Env.{Env}
 use Rattle.literal.specs.Literal.{first_variable, is_constant}
@@ -131,21 +131,19 @@ instance_codec form = record { back = instance_back form; sized = λ before afte
 
 -- ---- Stacks
 
-length-each : (form : Form) (xs : List Instance) → all (is_storable form) xs ≡ true
+length-each : (form : Form) (xs : List Instance) → list_all (is_storable form) xs ≡ true
     → length (each (instance_bytes form) xs) ≡ instance_size form * length xs
-unfolding all
 length-each form [] h = omega arith
 length-each form (x ∷ xs) h =
-    let parts = and_parts (is_storable form x) (all (is_storable form) xs) h in
+    let parts = and_parts (is_storable form x) (list_all (is_storable form) xs) h in
     length-append (instance_bytes form x) (each (instance_bytes form) xs)
     ∙ rw (length-instance form x parts.0, length-each form xs parts.1, mul-suc) (omega arith)
 
 -- a test of all of a joined list, of its parts
-all-parts : (test : Instance → Bool) (xs ys : List Instance) → all test (xs ++ ys) ≡ true → (all test xs ≡ true) × (all test ys ≡ true)
-unfolding all
+all-parts : (test : Instance → Bool) (xs ys : List Instance) → list_all test (xs ++ ys) ≡ true → (list_all test xs ≡ true) × (list_all test ys ≡ true)
 all-parts test [] ys h = (refl, h)
 all-parts test (x ∷ xs) ys h =
-    let parts = and_parts (test x) (all test (xs ++ ys)) h in
+    let parts = and_parts (test x) (list_all test (xs ++ ys)) h in
     let rest = all-parts test xs ys parts.1 in
     (rw parts.0 rest.0, rest.1)
 
@@ -169,17 +167,16 @@ module _ (form : Form) (before after : List ℕ) (stack : Intention) (h : is_sta
   few = leb-true (length stack.below) most_below (and_parts (leb (length stack.below) most_below) _ h).0
 
   -- every instance is storable, and the form holds the number
-  held : (all (is_storable form) (upward stack) ≡ true) × (holds_number form stack.external ≡ true)
+  held : (list_all (is_storable form) (upward stack) ≡ true) × (holds_number form stack.external ≡ true)
   held =
-      and_parts (all (is_storable form) (upward stack)) (holds_number form stack.external)
+      and_parts (list_all (is_storable form) (upward stack)) (holds_number form stack.external)
       (and_parts (leb (length stack.below) most_below) _ h).1
 
-  goods : (all (is_storable form) up ≡ true) × (all (is_storable form) (stack.top ∷ []) ≡ true)
+  goods : (list_all (is_storable form) up ≡ true) × (list_all (is_storable form) (stack.top ∷ []) ≡ true)
   unfolding upward
   goods = all-parts (is_storable form) up (stack.top ∷ []) held.0
 
   good_top : is_storable form stack.top ≡ true
-  unfolding all
   good_top = (and_parts (is_storable form stack.top) true goods.1).0
 
   at_height : whole ≡ before ++ (height ++ (number ++ (instances ++ after)))

@@ -8,7 +8,7 @@ use mathlib.Core.List.{List, [], ◌∷◌, ◌++◌, reverse, reverse-cons}
 use lib.Dec.{leb, ltb, eqb}
 use lib.ListN.{length, get_or, get_or-eq_default}
 use borrow.Author.Tests.{le-leb, leb-true, ltb-true, ltb-false, eqb-true, eqb-false, not-true}
-use Rattle.lists.specs.Search.{any, all}
+use Rattle.std.specs.List.{list_any, list_all}
 use Rattle.lists.specs.Counts.{bit, count}
 use Rattle.lists.proofs.BoolLaws.{by_cases, both_ways, and_parts, and_both}
 use Rattle.lists.proofs.CountLaws.{bit-none}
@@ -60,34 +60,30 @@ module _ {A : Type 0} where
     tests : test it ≡ true
     goods : good it ≡ true
 
-  both : (test good : A → Bool) (xs : List A) → any test xs ≡ true → all good xs ≡ true → Both test good
-  unfolding any all
+  both : (test good : A → Bool) (xs : List A) → list_any test xs ≡ true → list_all good xs ≡ true → Both test good
   both test good [] h k = both_ways refl (sym h)
   both test good (x ∷ xs) h k =
-      let parts = and_parts (good x) (all good xs) k in
+      let parts = and_parts (good x) (list_all good xs) k in
       by_cases (test x)
       (λ t. record { it = x; tests = t; goods = parts.0 })
       (λ f. both test good xs (rw f at h) parts.1)
 
   -- where none passes
-  none-all : (test good : A → Bool) (xs : List A) → count test xs ≡ 0 → all (λ x. not (test x) || good x) xs ≡ true
-  unfolding all
+  none-all : (test good : A → Bool) (xs : List A) → count test xs ≡ 0 → list_all (λ x. not (test x) || good x) xs ≡ true
   none-all test good [] h = refl
   none-all test good (x ∷ xs) h =
       let f : test x ≡ false = bit-none (test x) (omega arith) in
       and_both (not (test x) || good x) _ (rw f refl) (none-all test good xs (omega arith))
 
-  no_both : (test good : A → Bool) (xs : List A) → count test xs ≡ 0 → any (λ x. test x && good x) xs ≡ false
-  unfolding any
+  no_both : (test good : A → Bool) (xs : List A) → count test xs ≡ 0 → list_any (λ x. test x && good x) xs ≡ false
   no_both test good [] h = refl
   no_both test good (x ∷ xs) h =
       let f : test x ≡ false = bit-none (test x) (omega arith) in
       rw f (no_both test good xs (omega arith))
 
   -- what holds of one of them holds of the only one
-  only : (test good : A → Bool) (xs : List A) → count test xs ≤ 1 → any (λ x. test x && good x) xs ≡ true
-      → all (λ x. not (test x) || good x) xs ≡ true
-  unfolding any all
+  only : (test good : A → Bool) (xs : List A) → count test xs ≤ 1 → list_any (λ x. test x && good x) xs ≡ true
+      → list_all (λ x. not (test x) || good x) xs ≡ true
   only test good [] few h = refl
   only test good (x ∷ xs) few h =
       by_cases (test x)
@@ -98,46 +94,40 @@ module _ {A : Type 0} where
       (λ f. and_both (not (test x) || good x) _ (rw f refl) (only test good xs (omega (arith, few)) (rw f at h)))
 
   -- a test of every place
-  everywhere : (test : A → Bool) (xs : List A) (d : A) → ((i : ℕ) → i < length xs → test (get_or xs i d) ≡ true) → all test xs ≡ true
-  unfolding all
+  everywhere : (test : A → Bool) (xs : List A) (d : A) → ((i : ℕ) → i < length xs → test (get_or xs i d) ≡ true) → list_all test xs ≡ true
   everywhere test [] d h = refl
-  everywhere test (x ∷ xs) d h = and_both (test x) (all test xs) (h 0 (omega arith)) (everywhere test xs d (λ i p. h (suc i) (omega arith)))
+  everywhere test (x ∷ xs) d h = and_both (test x) (list_all test xs) (h 0 (omega arith)) (everywhere test xs d (λ i p. h (suc i) (omega arith)))
 
-  all_left : (test : A → Bool) (xs ys : List A) → all test (xs ++ ys) ≡ true → all test xs ≡ true
-  unfolding all
+  all_left : (test : A → Bool) (xs ys : List A) → list_all test (xs ++ ys) ≡ true → list_all test xs ≡ true
   all_left test [] ys h = refl
   all_left test (x ∷ xs) ys h =
-      let parts = and_parts (test x) (all test (xs ++ ys)) h in
-      and_both (test x) (all test xs) parts.0 (all_left test xs ys parts.1)
+      let parts = and_parts (test x) (list_all test (xs ++ ys)) h in
+      and_both (test x) (list_all test xs) parts.0 (all_left test xs ys parts.1)
 
-  all_right : (test : A → Bool) (xs ys : List A) → all test (xs ++ ys) ≡ true → all test ys ≡ true
-  unfolding all
+  all_right : (test : A → Bool) (xs ys : List A) → list_all test (xs ++ ys) ≡ true → list_all test ys ≡ true
   all_right test [] ys h = h
-  all_right test (x ∷ xs) ys h = all_right test xs ys (and_parts (test x) (all test (xs ++ ys)) h).1
+  all_right test (x ∷ xs) ys h = all_right test xs ys (and_parts (test x) (list_all test (xs ++ ys)) h).1
 
-  all-reverse : (test : A → Bool) (xs : List A) → all test xs ≡ true → all test (reverse xs) ≡ true
-  unfolding all
+  all-reverse : (test : A → Bool) (xs : List A) → list_all test xs ≡ true → list_all test (reverse xs) ≡ true
   all-reverse test [] h = refl
   all-reverse test (x ∷ xs) h =
-      let parts = and_parts (test x) (all test xs) h in
+      let parts = and_parts (test x) (list_all test xs) h in
       rw (reverse-cons x xs) (all-joined test (reverse xs) (x ∷ []) (all-reverse test xs parts.1)
       (and_both (test x) true parts.0 refl))
 
-  all-both_true : (one two : A → Bool) (xs : List A) → all one xs ≡ true → all two xs ≡ true → all (λ x. one x && two x) xs ≡ true
-  unfolding all
+  all-both_true : (one two : A → Bool) (xs : List A) → list_all one xs ≡ true → list_all two xs ≡ true → list_all (λ x. one x && two x) xs ≡ true
   all-both_true one two [] h k = refl
   all-both_true one two (x ∷ xs) h k =
-      let p = and_parts (one x) (all one xs) h in
-      let q = and_parts (two x) (all two xs) k in
+      let p = and_parts (one x) (list_all one xs) h in
+      let q = and_parts (two x) (list_all two xs) k in
       and_both (one x && two x) _ (and_both (one x) (two x) p.0 q.0) (all-both_true one two xs p.1 q.1)
 
-  any_more : (one two : A → Bool) (xs : List A) → ((x : A) → one x ≡ true → two x ≡ true) → any one xs ≡ true → any two xs ≡ true
-  unfolding any
+  any_more : (one two : A → Bool) (xs : List A) → ((x : A) → one x ≡ true → two x ≡ true) → list_any one xs ≡ true → list_any two xs ≡ true
   any_more one two [] f h = h
   any_more one two (x ∷ xs) f h =
       by_cases (one x)
       (λ t. rw (f x t) refl)
-      (λ n. or_right (two x) (any two xs) (any_more one two xs f (rw n at h)))
+      (λ n. or_right (two x) (list_any two xs) (any_more one two xs f (rw n at h)))
 
   -- an element that passes is counted
   one_at : (test : A → Bool) (xs : List A) (i : ℕ) (d : A) → test (get_or xs i d) ≡ true → i < length xs → 1 ≤ count test xs
@@ -169,12 +159,12 @@ suspended_goal tried kind Waiting h e = both_ways e refl
 suspended_goal tried kind Suspended h e = (and_parts (ltb 0 tried) (is_goal_kind kind) h).1
 
 module _ (library : Library) (ok : library_ok library ≡ true) where
-  plans_ok : all plan_ok library.plans ≡ true
+  plans_ok : list_all plan_ok library.plans ≡ true
   unfolding library_ok
   plans_ok =
       let one = and_parts (at_most most_plans library.plans) _ ok in
       let two = and_parts (at_most most_beliefs library.beliefs) _ one.1 in
-      (and_parts (beliefs_ok library.beliefs) (all plan_ok library.plans) two.1).1
+      (and_parts (beliefs_ok library.beliefs) (list_all plan_ok library.plans) two.1).1
 
   -- the kind of the branch that a suspended instance tried last
   tried_kind : (x : Instance) → Sound library x → is_suspended x.status ≡ true → (branch_of library x).kind ≤ last_kind
@@ -203,9 +193,9 @@ goal_kind library ok x sound asleep event h =
 
 module _ (library : Library) (ok : library_ok library ≡ true) (queue : List Event) (jobs : List Job) (once : (o : Origin)
     → count (is_of o) queue ≤ 1)
-    (sounds : all (λ (job : Job). is_sound library job.instance) jobs ≡ true) (goals : all (has_goal library queue) jobs ≡ true) where
+    (sounds : list_all (λ (job : Job). is_sound library job.instance) jobs ≡ true) (goals : list_all (has_goal library queue) jobs ≡ true) where
   -- every event of a goal's origin that someone posted has such a kind
-  posted_kind : (o : Origin) → any (is_posted o) jobs ≡ true → all (λ (event : Event). not (is_of o event) || is_kind event) queue ≡ true
+  posted_kind : (o : Origin) → list_any (is_posted o) jobs ≡ true → list_all (λ (event : Event). not (is_of o event) || is_kind event) queue ≡ true
   unfolding has_goal
   posted_kind o h =
       let good : Job → Bool = λ job. has_goal library queue job && is_sound library job.instance in
@@ -216,42 +206,42 @@ module _ (library : Library) (ok : library_ok library ≡ true) (queue : List Ev
       let parts = and_parts (has_goal library queue found.it) (is_sound library x) found.goods in
       let posted = and_parts (is_suspended x.status) (same_origin o (goal_of x)) found.tests in
       let same : o ≡ goal_of x = origin_equal o (goal_of x) posted.1 in
-      let has : any (is_goal_for library x) queue ≡ true = rw posted.0 at parts.0 in
+      let has : list_any (is_goal_for library x) queue ≡ true = rw posted.0 at parts.0 in
       only (is_of o) is_kind queue (once o) (any_more (is_goal_for library x) (λ (event : Event). is_of o event && is_kind event) queue
       (λ event g. and_both (is_of o event) (is_kind event) (subst⁻¹ (λ (u : Origin). is_of u event ≡ true) same (is_goal_of library x event g))
       (goal_kind library ok x (sound_parts library x parts.1) posted.0 event g)) has)
 
 -- ---- Stacks
 
-stored_jobs : (external : ℕ) (xs : List Instance) → all (λ (job : Job). is_storable newest job.instance) (jobs_on external xs) ≡ true
-    → all (is_storable newest) xs ≡ true
-unfolding jobs_on all
+stored_jobs : (external : ℕ) (xs : List Instance) → list_all (λ (job : Job). is_storable newest job.instance) (jobs_on external xs) ≡ true
+    → list_all (is_storable newest) xs ≡ true
+unfolding jobs_on
 stored_jobs external [] h = refl
 stored_jobs external (x ∷ xs) h =
     let parts = and_parts (is_storable newest x) _ h in
-    and_both (is_storable newest x) (all (is_storable newest) xs) parts.0 (stored_jobs external xs parts.1)
+    and_both (is_storable newest x) (list_all (is_storable newest) xs) parts.0 (stored_jobs external xs parts.1)
 
-stored_stack : (stack : Intention) → is_stack stack ≡ true → all (is_storable newest) (stack.top ∷ stack.below) ≡ true
+stored_stack : (stack : Intention) → is_stack stack ≡ true → list_all (is_storable newest) (stack.top ∷ stack.below) ≡ true
     → is_stack_storable newest stack ≡ true
-unfolding upward all
+unfolding upward
 stored_stack stack h k =
     let few : length stack.below ≤ most_below = omega (arith, (stack-parts stack h).height) in
-    let parts = and_parts (is_storable newest stack.top) (all (is_storable newest) stack.below) k in
+    let parts = and_parts (is_storable newest stack.top) (list_all (is_storable newest) stack.below) k in
     and_both (leb (length stack.below) most_below) _ (le-leb (length stack.below) most_below few)
-    (and_both (all (is_storable newest) (upward stack)) true
+    (and_both (list_all (is_storable newest) (upward stack)) true
     (all-joined (is_storable newest) (reverse stack.below) (stack.top ∷ []) (all-reverse (is_storable newest) stack.below parts.1)
     (and_both (is_storable newest stack.top) true parts.0 refl))
     refl)
 
-stored_stacks : (stacks : List Intention) → all is_stack stacks ≡ true
-    → all (λ (job : Job). is_storable newest job.instance) (live stacks) ≡ true → all (is_stack_storable newest) stacks ≡ true
-unfolding live all
+stored_stacks : (stacks : List Intention) → list_all is_stack stacks ≡ true
+    → list_all (λ (job : Job). is_storable newest job.instance) (live stacks) ≡ true → list_all (is_stack_storable newest) stacks ≡ true
+unfolding live
 stored_stacks [] h k = refl
 stored_stacks (stack ∷ rest) h k =
-    let parts = and_parts (is_stack stack) (all is_stack rest) h in
+    let parts = and_parts (is_stack stack) (list_all is_stack rest) h in
     let own = jobs_on stack.external (stack.top ∷ stack.below) in
     let test : Job → Bool = λ job. is_storable newest job.instance in
-    and_both (is_stack_storable newest stack) (all (is_stack_storable newest) rest)
+    and_both (is_stack_storable newest stack) (list_all (is_stack_storable newest) rest)
     (stored_stack stack parts.0 (stored_jobs stack.external (stack.top ∷ stack.below) (all_left test own (live rest) k)))
     (stored_stacks rest parts.1 (all_right test own (live rest) k))
 
@@ -265,7 +255,7 @@ module _ (library : Library) (ok : library_ok library ≡ true) (s : AgentState)
   abbrev jobs : List Job
   jobs = live s.stacks
 
-  sounds : all (λ (job : Job). is_sound library job.instance) jobs ≡ true
+  sounds : list_all (λ (job : Job). is_sound library job.instance) jobs ≡ true
   sounds = every_all (λ (job : Job). is_sound library job.instance) jobs h.local.sounds
 
   -- a queued goal has a poster, and so a kind with a code
@@ -275,13 +265,13 @@ module _ (library : Library) (ok : library_ok library ≡ true) (s : AgentState)
       let o = (get_or s.queue i no_event).origin in
       let counted =
       one_at (λ (e : Event). is_goal e.origin && is_of o e) s.queue i no_event (and_both (is_goal o) _ g (origin_same o)) low in
-      let someone : any (is_posted o) jobs ≡ true = some-any (is_posted o) jobs (omega (arith, h.linked.goals o, counted)) in
+      let someone : list_any (is_posted o) jobs ≡ true = some-any (is_posted o) jobs (omega (arith, h.linked.goals o, counted)) in
       let posters = every_all (has_goal library s.queue) jobs h.linked.posters in
       let coded = all_at (λ (e : Event). not (is_of o e) || is_kind e) s.queue i no_event
       (posted_kind library ok s.queue jobs h.linked.event_once sounds posters o someone) low in
       rw (origin_same o) at coded
 
-  kinds_coded : all is_kind s.queue ≡ true
+  kinds_coded : list_all is_kind s.queue ≡ true
   kinds_coded = everywhere is_kind s.queue no_event (λ i low.
       let event = get_or s.queue i no_event in
       let told : Event → Bool = λ e. is_goal e.origin || leb e.kind told_kind in
@@ -289,12 +279,12 @@ module _ (library : Library) (ok : library_ok library ≡ true) (s : AgentState)
       by_cases (is_goal event.origin) (λ g. goal_coded i low g)
       (λ f. le-leb event.kind last_kind (omega (arith, leb-true event.kind told_kind (rw f at local)))))
 
-  envs_stored : all (λ (job : Job). is_storable newest job.instance) jobs ≡ true
+  envs_stored : list_all (λ (job : Job). is_storable newest job.instance) jobs ≡ true
   envs_stored =
       all_weaker (λ (job : Job). is_sound library job.instance) (λ (job : Job). is_storable newest job.instance)
       (λ job e. and_both (is_env job.instance.env) true (sound_parts library job.instance e).env refl) jobs sounds
 
-  stacks_stored : all (is_stack_storable newest) s.stacks ≡ true
+  stacks_stored : list_all (is_stack_storable newest) s.stacks ≡ true
   stacks_stored = stored_stacks s.stacks (every_all is_stack s.stacks h.stacked) envs_stored
 
 -- what is well formed can be stored

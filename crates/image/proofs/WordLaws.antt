@@ -1,5 +1,5 @@
 -- Numbers of 16 bits are read back where they were written, and a loop that writes them.
-use Prim.Native.Nat.{ℕ, zero, suc, ◌+◌, ◌*◌, ◌/◌, ◌%◌, ◌<◌}
+use Prim.Native.Nat.{ℕ, ◌≤◌, zero, suc, ◌+◌, ◌*◌, ◌/◌, ◌%◌, ◌<◌}
 use native.Mathlib.Nat.{mul-suc, add_assoc, add-zero}
 use native.Mathlib.Numerals.{add-one}
 use native.Mathlib.Omega.{arith}
@@ -7,8 +7,8 @@ use mathlib.Core.Path.{◌≡◌, refl, ap, ap₂, sym, ◌∙◌}
 use mathlib.Core.Bool.{true}
 use mathlib.Core.List.{List, [], ◌∷◌, ◌++◌, append-nil, append_assoc}
 use lib.Dec.{lit<}
-use lib.ListN.{length, take, get_or, set}
-use lib.Seq.{take-suc, get_or-append-add}
+use lib.ListN.{length, take, get_or}
+use lib.Seq.{take_all, take-suc, get_or-append-add}
 use borrow.Author.Tests.{ltb-true}
 use Rattle.lists.specs.Counts.{each}
 use Rattle.library.specs.Bytes.{u16_at}
@@ -87,10 +87,7 @@ module _ {A : Type 0} (write : A → List ℕ) where
       → Wrote (width * (i + 1)) first last at p (each write (take (i + 1) xs))
   next_part width xs i d h done one = written (sym (one_more xs i d h)) (widen (rw (add-one, mul-suc) (omega arith)) (then done one))
 
--- one byte more is written
-pub byte_more : {first middle : List ℕ} {at : ℕ} (bytes : List ℕ) (i : ℕ) → i < length bytes
-    → Wrote i first middle at (at + i) (take i bytes)
-    → Wrote (i + 1) first (set middle (at + i) (get_or bytes i 0)) at (at + (i + 1)) (take (i + 1) bytes)
-byte_more {first} {middle} {at} bytes i h done =
-    written (sym (ap (λ (n : ℕ). take n bytes) (add-one i) ∙ take-suc bytes i 0 h))
-    (then done (record { bytes = refl; past = omega arith; within = omega arith }))
+  -- and all of them
+  pub all_parts : {first last : List ℕ} {at o : ℕ} (width : ℕ) (xs : List A) (i : ℕ) → length xs ≤ i
+      → Wrote (width * i) first last at o (each write (take i xs)) → Wrote (width * i) first last at o (each write xs)
+  all_parts width xs i h done = written (ap (each write) (take_all i xs h)) done

@@ -1,7 +1,8 @@
 -- An agent as bytes (docs/IMAGE-FORMAT.md, "Contents and bodies", "Restoring: 12, then 10"; document 02, requests 3 and 5).
-use Rattle.std.specs.Prelude.{ℕ, ◌+◌, ◌*◌, min, Bool, true, false, cond, ◌&&◌, List, [], ◌∷◌, ◌++◌, eqb, leb, length, take, drop}
+use Rattle.std.specs.Prelude.{ℕ, ◌+◌, ◌*◌, min, Bool, cond, ◌&&◌, List, [], ◌∷◌, ◌++◌, eqb, leb, length, take, drop}
 use Rattle.lists.specs.Counts.{each}
-use Rattle.lists.specs.Search.{all}
+use Rattle.std.specs.List.{list_all}
+use Rattle.std.specs.Str.{bytes_eq}
 use Rattle.belief.specs.Beliefs.{most_beliefs}
 use Rattle.library.specs.Bytes.{u16_at}
 use Rattle.library.specs.Layout.{library_of}
@@ -66,8 +67,8 @@ image_of = image_as newest
 unfoldable pub can_hold : Form → List ℕ → AgentState → Bool
 can_hold form library s =
     leb (length library) most_bytes && (leb (length s.beliefs) most_beliefs
-    && (leb (length s.queue) most_queued && (all (is_event_storable form) s.queue
-    && (leb (length s.stacks) most_stacks && (all (is_stack_storable form) s.stacks
+    && (leb (length s.queue) most_queued && (list_all (is_event_storable form) s.queue
+    && (leb (length s.stacks) most_stacks && (list_all (is_stack_storable form) s.stacks
     && (holds_number form s.taken && holds_number form s.made))))))
 
 -- how many bytes the largest image has
@@ -113,16 +114,9 @@ state_in image = state_as (form_in image) image
 
 -- ---- What is refused
 
--- two lists of bytes are the same
-unfoldable pub same_bytes : List ℕ → List ℕ → Bool
-same_bytes [] [] = true
-same_bytes [] (y ∷ ys) = false
-same_bytes (x ∷ xs) [] = false
-same_bytes (x ∷ xs) (y ∷ ys) = eqb x y && same_bytes xs ys
-
 -- the bytes are the image of what is read from them, in its form: each thing has one code, each body one place and one length
 unfoldable pub is_image : List ℕ → Bool
-is_image image = same_bytes image (image_as (form_in image) (library_in image) (state_in image))
+is_image image = bytes_eq image (image_as (form_in image) (library_in image) (state_in image))
 
 -- the library is accepted and the state keeps every rule
 unfoldable pub is_formed_in : List ℕ → Bool

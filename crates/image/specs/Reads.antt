@@ -1,6 +1,6 @@
 -- What reading the parts of an image gives: private vocabulary of the functions that read (docs/IMAGE-FORMAT.md; document 02, request 3).
 use Rattle.std.specs.Prelude.{ℕ, ◌-◌, ◌≤◌, min, ◌≡◌, true, List, map, leb, length, take}
-use Rattle.lists.specs.Search.{all}
+use Rattle.std.specs.List.{list_all}
 use Rattle.accepted.specs.Refusal.{most_bytes}
 use Rattle.model.specs.State.{most_stacks}
 use Rattle.state.specs.declared.Stack.{Stack}
@@ -21,7 +21,7 @@ pub record ReadsStack (form : Form) (image : List ℕ) (at : ℕ) (r : Stack) : 
 pub record ReadsStacks (form : Form) (image : List ℕ) (at : ℕ) (r : StackRow) : Type 0 where
   pub few : r.count ≤ most_stacks
   pub means : map view_stack (take r.count r.items) ≡ stacks_at form image at
-  pub depths : all (λ stack. leb stack.depth most_below) (take r.count r.items) ≡ true
+  pub depths : list_all (λ stack. leb stack.depth most_below) (take r.count r.items) ≡ true
 
 -- how many bytes of the library are there, from an offset on
 abbrev pub size_in : List ℕ → ℕ → ℕ

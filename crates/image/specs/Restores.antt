@@ -1,21 +1,25 @@
 -- What restore gives: 12 where the bytes are no image, then 10 where the library is refused or the state not well formed
 -- (docs/IMAGE-FORMAT.md, "Restoring: 12, then 10"; document 02, request 3).
-use Rattle.std.specs.Prelude.{ℕ, ◌≤◌, ◌≡◌, true, List, length}
+use Rattle.std.specs.Prelude.{ℕ, ◌≤◌, ◌≡◌, true, List, length, Result, MatchResult}
+use Rattle.refusals.specs.declared.Refusal.{Refusal}
+use Rattle.refusals.specs.Numbers.{number_of}
 use Rattle.accepted.specs.Refusal.{most_bytes}
 use Rattle.state.specs.View.{view_state, counts_fit}
-use Rattle.load.specs.declared.Loaded.{Loaded}
-use Rattle.load.specs.Load.{bytes_of, Holds, no_agent}
+use Rattle.load.specs.declared.Agent.{Agent}
+use Rattle.load.specs.Load.{bytes_of, Holds}
 use Rattle.image.specs.Image.{library_in, state_in, image_refusal}
 
--- the refusal's number, 0 where there is none; then the agent has the library and the state of the image.
--- Where it is refused no agent is made
-pub record Restores (image : List ℕ) (r : Loaded) : Type 0 where
-  pub number : r.refusal ≡ image_refusal image
-  pub copy : image_refusal image ≡ 0 → bytes_of r.agent ≡ library_in image
-  pub state : image_refusal image ≡ 0 → view_state r.agent.state ≡ state_in image
-  pub table : image_refusal image ≡ 0 → Holds (state_in image).beliefs r.agent.state.beliefs
-  pub none : (image_refusal image ≡ 0 → ⊥) → r.agent ≡ no_agent
+-- an agent with the library and the state of the image
+pub record Restored (image : List ℕ) (a : Agent) : Type 0 where
+  pub accepted : image_refusal image ≡ 0
+  pub copy : bytes_of a ≡ library_in image
+  pub state : view_state a.state ≡ state_in image
+  pub table : Holds (state_in image).beliefs a.state.beliefs
   -- every count is within its array, and the library's array has its length
-  pub fit : counts_fit r.agent.state ≡ true
-  pub within : r.agent.length ≤ most_bytes
-  pub places : length r.agent.library ≡ most_bytes
+  pub fit : counts_fit a.state ≡ true
+  pub within : a.length ≤ most_bytes
+  pub places : length a.library ≡ most_bytes
+
+-- the agent, or the refusal of bytes that are no image of a well-formed agent; then there is no agent
+abbrev pub Restores : List ℕ → Result Agent Refusal → Type 0
+Restores image r = MatchResult r (Restored image) (λ e. number_of e ≡ image_refusal image)

@@ -1,7 +1,7 @@
 -- Instances and stacks in an image (docs/IMAGE-FORMAT.md, "A stack", "An instance"; document 02, requests 3 and 5).
 use Rattle.std.specs.Prelude.{ℕ, zero, suc, ◌+◌, ◌-◌, ◌*◌, min, Bool, cond, ◌&&◌, List, [], ◌∷◌, ◌++◌, reverse, eqb, leb, length}
 use Rattle.lists.specs.Counts.{each}
-use Rattle.lists.specs.Search.{all}
+use Rattle.std.specs.List.{list_all}
 use Rattle.literal.specs.declared.Env.{Env}
 use Rattle.literal.specs.Literal.{first_variable, is_constant}
 use Rattle.literal.specs.Environment.{is_env}
@@ -87,7 +87,7 @@ stack_bytes form stack = word_bytes (height_of stack) ++ (number_bytes form stac
 -- at most 7 below the top, every instance storable, and the form holds the external event's number
 abbrev pub is_stack_storable : Form → Intention → Bool
 is_stack_storable form stack =
-    leb (length stack.below) most_below && (all (is_storable form) (upward stack) && holds_number form stack.external)
+    leb (length stack.below) most_below && (list_all (is_storable form) (upward stack) && holds_number form stack.external)
 
 -- how many are below the top
 unfoldable pub depth_at : List ℕ → ℕ → ℕ

@@ -6,7 +6,7 @@ ghost use Rattle.load.specs.Load.{Holds};
 ghost use Rattle.image.specs.Words.{farthest};
 ghost use Rattle.image.specs.BeliefImage.{literal_size, most_beliefs_size, literal_bytes, beliefs_bytes, beliefs_at};
 
-use crate::words::{WORD_BYTES, least, put_word, put_words};
+use crate::words::{WORD_BYTES, put_word, put_words};
 use belief::{Beliefs, MOST_BELIEFS};
 use library::bytes::{LITERAL_BYTES, literal_at, u16_at};
 use literal::Literal;
@@ -26,11 +26,8 @@ pub(crate) fn put_beliefs(out: &mut [u8], at: usize, table: Beliefs) -> usize
 {
     let n = belief::size_of(table);
     let mut o = put_word(out, at, n as u16);
-    let mut i: usize = 0;
-    while i < n {
-        let l = table.items[i];
-        o = put_literal(out, o, l);
-        i += 1;
+    for l in &table.items[..n] {
+        o = put_literal(out, o, *l);
     }
     o
 }
@@ -39,17 +36,12 @@ pub(crate) fn beliefs_at(image: &[u8], at: usize) -> Beliefs
     requires { at + most_beliefs_size ≤ farthest }
     ensures { Holds (beliefs_at image.now at) result }
 {
-    let n = least(u16_at(image, at) as usize, MOST_BELIEFS);
+    let n = (u16_at(image, at) as usize).min(MOST_BELIEFS);
     let nothing = library::bytes::no_literal();
     let mut items = [nothing; MOST_BELIEFS];
-    let mut i: usize = 0;
-    while i < n {
+    for i in 0..n {
         let l = literal_at(image, at + WORD_BYTES + LITERAL_BYTES * i);
         items[i] = l;
-        i += 1;
     }
-    Beliefs {
-        items: items,
-        count: n,
-    }
+    Beliefs { items, count: n }
 }

@@ -11,79 +11,40 @@ ghost use Rattle.image.specs.EventImage.{event_size, event_bytes, event_at, even
 use crate::form::{Form, numbers_size};
 use crate::words::{HIGH, long_at, number_at, put_number, put_word, put_words};
 use library::bytes::{literal_at, u16_at};
+use library::kinds::Trigger;
 use model::{Event, Number, Origin};
 use state::MOST_QUEUED;
 
 // How many bytes of an event stand before its number.
 const EVENT_FIELDS: usize = 20;
-// The last kind of an event: a query.
-const LAST_EVENT_KIND: u16 = 4;
 
 // ---- Origins
 
-fn origin_code(origin: Origin) -> u16
-    ensures { result ≡ origin_code origin }
+// Its code, state, branch and number: an external event has 0 for state and branch.
+fn origin_fields(origin: Origin) -> (u16, u16, u16, Number)
+    ensures { result ≡ (origin_code origin, origin_state origin, origin_branch origin, origin_number origin) }
 {
     match origin {
-        Origin::External(_) => 0,
-        Origin::Goal {
-            instance: _,
-            state: _,
-            branch: _,
-        } => 1,
-    }
-}
-
-fn origin_state(origin: Origin) -> u16
-    ensures { result ≡ origin_state origin }
-{
-    match origin {
-        Origin::External(_) => 0,
-        Origin::Goal {
-            instance: _,
-            state,
-            branch: _,
-        } => state,
-    }
-}
-
-fn origin_branch(origin: Origin) -> u16
-    ensures { result ≡ origin_branch origin }
-{
-    match origin {
-        Origin::External(_) => 0,
-        Origin::Goal {
-            instance: _,
-            state: _,
-            branch,
-        } => branch,
-    }
-}
-
-fn origin_number(origin: Origin) -> Number
-    ensures { result ≡ origin_number origin }
-{
-    match origin {
-        Origin::External(number) => number,
+        Origin::External(number) => (0, 0, 0, number),
         Origin::Goal {
             instance,
-            state: _,
-            branch: _,
-        } => instance,
+            state,
+            branch,
+        } => (1, state, branch, instance),
     }
 }
 
 fn origin_of(code: u16, state: u16, branch: u16, number: Number) -> Origin
     ensures { result ≡ origin_of code state branch number }
 {
-    if code == 1 {
-        return Origin::Goal {
+    match code {
+        1 => Origin::Goal {
             instance: number,
-            state: state,
-            branch: branch,
-        };
+            state,
+            branch,
+        },
+        _ => Origin::External(number),
     }
-    Origin::External(number)
 }
 
 // ---- Writing
@@ -92,12 +53,8 @@ fn put_event(out: &mut [u8], at: usize, form: Form, event: Event) -> usize
     requires { at + event_size newest ≤ length out.old }
     ensures { Wrote (event_size newest) out.old out.new at result (event_bytes form event) }
 {
-    let origin = event.origin;
     let l = event.literal;
-    let code = origin_code(origin);
-    let state = origin_state(origin);
-    let branch = origin_branch(origin);
-    let number = origin_number(origin);
+    let (code, state, branch, number) = origin_fields(event.origin);
     let words = [
         code,
         state,
@@ -126,24 +83,22 @@ pub(crate) fn put_events(
     ensures { Wrote (word_size + event_size newest * n) out.old out.new at result (events_bytes form (take n queue)) }
 {
     let mut o = put_word(out, at, n as u16);
-    let mut i: usize = 0;
-    while i < n {
-        let event = queue[i];
-        o = put_event(out, o, form, event);
-        i += 1;
+    for event in &queue[..n] {
+        o = put_event(out, o, form, *event);
     }
     o
 }
 
 // ---- Reading
 
+// What names no kind of event is read as 0.
 fn kind_of(code: u16) -> u16
     ensures { result ≡ kind_of code }
 {
-    if LAST_EVENT_KIND < code {
-        return 0;
+    match Trigger::try_from(code) {
+        Ok(_) => code,
+        Err(_) => 0,
     }
-    code
 }
 
 fn event_at(image: &[u8], at: usize, form: Form) -> Event
@@ -159,10 +114,10 @@ fn event_at(image: &[u8], at: usize, form: Form) -> Event
     let literal = literal_at(image, at + 8);
     let failed = long_at(image, at + 16);
     Event {
-        origin: origin,
-        kind: kind,
-        literal: literal,
-        failed: failed,
+        origin,
+        kind,
+        literal,
+        failed,
     }
 }
 
@@ -173,11 +128,9 @@ pub(crate) fn events_at(image: &[u8], at: usize, form: Form, n: usize) -> [Event
 {
     let nothing = event_at(image, at, form);
     let mut queue = [nothing; MOST_QUEUED];
-    let mut i: usize = 0;
-    while i < n {
+    for i in 0..n {
         let event = event_at(image, at + EVENT_FIELDS * i + numbers_size(form, i), form);
         queue[i] = event;
-        i += 1;
     }
     queue
 }

@@ -6,7 +6,7 @@ use crate::beliefs::beliefs_at;
 use crate::events::events_at;
 use crate::form::{ENTRY_BYTES, Form, contents_size, numbers_size};
 use crate::stacks::stacks_at;
-use crate::words::{WORD_BYTES, least, number_at};
+use crate::words::{WORD_BYTES, number_at};
 use library::bytes::u16_at;
 use load::MOST_BYTES;
 use state::{MOST_QUEUED, State};
@@ -22,12 +22,8 @@ pub(crate) struct LibraryCopy {
 fn library_size(image: &[u8], from: usize) -> usize
     ensures { result ≡ size_in image.now from }
 {
-    let n = image.len();
-    if n < from {
-        return 0;
-    }
-    let size = least(u16_at(image, WORD_BYTES) as usize, MOST_BYTES);
-    least(size, n - from)
+    let size = (u16_at(image, WORD_BYTES) as usize).min(MOST_BYTES);
+    size.min(image.len().saturating_sub(from))
 }
 
 pub(crate) fn library_in(image: &[u8], form: Form) -> LibraryCopy
@@ -36,15 +32,10 @@ pub(crate) fn library_in(image: &[u8], form: Form) -> LibraryCopy
     let from = contents_size(form);
     let size = library_size(image, from);
     let mut bytes = [0u8; MOST_BYTES];
-    let mut i: usize = 0;
-    while i < size {
-        bytes[i] = image[from + i];
-        i += 1;
+    if let Some(library) = image.get(from..from + size) {
+        bytes[..size].copy_from_slice(library);
     }
-    LibraryCopy {
-        bytes: bytes,
-        size: size,
-    }
+    LibraryCopy { bytes, size }
 }
 
 pub(crate) fn state_in(image: &[u8], form: Form) -> State
@@ -55,7 +46,7 @@ pub(crate) fn state_in(image: &[u8], form: Form) -> State
     let k = u16_at(image, ENTRY_BYTES * 3) as usize;
     let c = u16_at(image, ENTRY_BYTES * 4) as usize;
     let beliefs = beliefs_at(image, b);
-    let queued = least(u16_at(image, e) as usize, MOST_QUEUED);
+    let queued = (u16_at(image, e) as usize).min(MOST_QUEUED);
     let queue = events_at(image, e + WORD_BYTES, form, queued);
     let row = stacks_at(image, k, form);
     let stacks = row.items;
@@ -63,12 +54,12 @@ pub(crate) fn state_in(image: &[u8], form: Form) -> State
     let taken = number_at(image, c, form);
     let made = number_at(image, c + numbers_size(form, 1), form);
     State {
-        beliefs: beliefs,
-        queue: queue,
-        queued: queued,
-        stacks: stacks,
-        stacked: stacked,
-        taken: taken,
-        made: made,
+        beliefs,
+        queue,
+        queued,
+        stacks,
+        stacked,
+        taken,
+        made,
     }
 }

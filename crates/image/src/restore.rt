@@ -3,16 +3,13 @@ ghost use Rattle.image.specs.Restores.{Restores};
 
 use crate::form::form_in;
 use crate::parts::{library_in, state_in};
-use crate::save::NOT_FORMED;
 use crate::whole::is_image_of;
 use formed::is_well_formed;
-use load::{Agent, Loaded};
+use load::Agent;
+use refusals::Refusal;
 
-// The bytes are no image.
-const NO_IMAGE: u16 = 12;
-
-// The agent, or the refusal's number and an agent without a library.
-pub fn restore(image: &[u8]) -> Loaded
+// The agent that the image holds, or why there is none.
+pub fn restore(image: &[u8]) -> Result<Agent, Refusal>
     ensures { Restores image.now result }
 {
     let form = form_in(image);
@@ -21,18 +18,14 @@ pub fn restore(image: &[u8]) -> Loaded
     let library = copy.bytes;
     let size = copy.size;
     if !is_image_of(image, form, library, size, state) {
-        return load::refused(NO_IMAGE);
+        return Err(Refusal::NoImage);
     }
     if !is_well_formed(&library, size, state) {
-        return load::refused(NOT_FORMED);
+        return Err(Refusal::NotFormed);
     }
-    let agent = Agent {
-        library: library,
+    Ok(Agent {
+        library,
         length: size,
-        state: state,
-    };
-    Loaded {
-        refusal: 0,
-        agent: agent,
-    }
+        state,
+    })
 }

@@ -11,9 +11,9 @@ ghost use Rattle.image.specs.StackImage.{stack_size, most_stacks_size, stack_byt
 ghost use Rattle.image.specs.Reads.{ReadsStack, ReadsStacks};
 
 use crate::form::{Form, numbers_size};
-use crate::words::{WORD_BYTES, least, number_at, put_number, put_word, put_words};
+use crate::words::{WORD_BYTES, number_at, put_number, put_word, put_words};
 use library::bytes::u16_at;
-use literal::{Env, FIRST_VARIABLE};
+use literal::{Env, FIRST_VARIABLE, VARIABLES};
 use model::{Instance, Status};
 use state::stacks::depth_of;
 use state::{MOST_BELOW, MOST_STACKS, Stack};
@@ -21,7 +21,7 @@ use state::{MOST_BELOW, MOST_STACKS, Stack};
 // How many bytes of an instance stand before its id.
 const INSTANCE_FIELDS: usize = 24;
 
-// The stacks that were read, the first `count` of the array.
+// The stacks that were read, the first `count` of the array: memory is fixed, so no Vec.
 #[derive(Clone, Copy)]
 pub(crate) struct StackRow {
     pub items: [Stack; MOST_STACKS],
@@ -63,11 +63,8 @@ fn put_stack(out: &mut [u8], at: usize, form: Form, stack: Stack) -> usize
     let top = stack.top;
     let head = put_word(out, at, (n + 1) as u16);
     let mut o = put_number(out, head, form, stack.external);
-    let mut i: usize = 0;
-    while i < n {
-        let x = stack.below[i];
-        o = put_instance(out, o, form, x);
-        i += 1;
+    for x in &stack.below[..n] {
+        o = put_instance(out, o, form, *x);
     }
     put_instance(out, o, form, top)
 }
@@ -85,11 +82,8 @@ pub(crate) fn put_stacks(
         (stacks_bytes form (map view_stack (take n stacks))) }
 {
     let mut o = put_word(out, at, n as u16);
-    let mut i: usize = 0;
-    while i < n {
-        let stack = stacks[i];
-        o = put_stack(out, o, form, stack);
-        i += 1;
+    for stack in &stacks[..n] {
+        o = put_stack(out, o, form, *stack);
     }
     o
 }
@@ -99,13 +93,11 @@ pub(crate) fn put_stacks(
 fn status_of(code: u16) -> Status
     ensures { result ≡ status_of code }
 {
-    if code == 1 {
-        return Status::Waiting;
+    match code {
+        1 => Status::Waiting,
+        2 => Status::Suspended,
+        _ => Status::Active,
     }
-    if code == 2 {
-        return Status::Suspended;
-    }
-    Status::Active
 }
 
 // A constant, or the variable itself.
@@ -114,33 +106,21 @@ fn entry_at(image: &[u8], variable: u16, at: usize) -> u16
 {
     let term = u16_at(image, at);
     if term < FIRST_VARIABLE {
-        return term;
+        term
+    } else {
+        variable
     }
-    variable
 }
 
 fn env_at(image: &[u8], at: usize) -> Env
     requires { at + 16 ≤ farthest }
     ensures { result ≡ env_at image.now at }
 {
-    let b = at + 2;
-    let c = b + 2;
-    let d = c + 2;
-    let e = d + 2;
-    let f = e + 2;
-    let g = f + 2;
-    let h = g + 2;
-    let t0 = entry_at(image, FIRST_VARIABLE, at);
-    let t1 = entry_at(image, FIRST_VARIABLE + 1, b);
-    let t2 = entry_at(image, FIRST_VARIABLE + 2, c);
-    let t3 = entry_at(image, FIRST_VARIABLE + 3, d);
-    let t4 = entry_at(image, FIRST_VARIABLE + 4, e);
-    let t5 = entry_at(image, FIRST_VARIABLE + 5, f);
-    let t6 = entry_at(image, FIRST_VARIABLE + 6, g);
-    let t7 = entry_at(image, FIRST_VARIABLE + 7, h);
-    Env {
-        terms: [t0, t1, t2, t3, t4, t5, t6, t7],
+    let mut terms = [FIRST_VARIABLE; VARIABLES];
+    for i in 0..VARIABLES {
+        terms[i] = entry_at(image, FIRST_VARIABLE + i as u16, at + WORD_BYTES * i);
     }
+    Env { terms }
 }
 
 fn instance_at(image: &[u8], at: usize, form: Form) -> Instance
@@ -154,12 +134,12 @@ fn instance_at(image: &[u8], at: usize, form: Form) -> Instance
     let env = env_at(image, at + 8);
     let id = number_at(image, at + INSTANCE_FIELDS, form);
     Instance {
-        id: id,
-        plan: plan,
-        env: env,
-        state: state,
-        tried: tried,
-        status: status,
+        id,
+        plan,
+        env,
+        state,
+        tried,
+        status,
     }
 }
 
@@ -169,10 +149,7 @@ fn depth_at(image: &[u8], at: usize) -> usize
     ensures small { result ≤ most_below }
 {
     let height = u16_at(image, at) as usize;
-    if height < 1 {
-        return 0;
-    }
-    least(height - 1, MOST_BELOW)
+    height.saturating_sub(1).min(MOST_BELOW)
 }
 
 fn stack_at(image: &[u8], at: usize, form: Form) -> Stack
@@ -188,21 +165,19 @@ fn stack_at(image: &[u8], at: usize, form: Form) -> Stack
         form,
     );
     let mut below = [top; MOST_BELOW];
-    let mut i: usize = 0;
-    while i < depth {
+    for i in 0..depth {
         let x = instance_at(
             image,
             first + INSTANCE_FIELDS * i + numbers_size(form, i),
             form,
         );
         below[i] = x;
-        i += 1;
     }
     Stack {
-        top: top,
-        below: below,
-        depth: depth,
-        external: external,
+        top,
+        below,
+        depth,
+        external,
     }
 }
 
@@ -219,19 +194,14 @@ pub(crate) fn stacks_at(image: &[u8], at: usize, form: Form) -> StackRow
     requires { at + most_stacks_size ≤ farthest }
     ensures { ReadsStacks form image.now at result }
 {
-    let count = least(u16_at(image, at) as usize, MOST_STACKS);
+    let count = (u16_at(image, at) as usize).min(MOST_STACKS);
     let first = stack_at(image, at + WORD_BYTES, form);
     let mut items = [first; MOST_STACKS];
     let mut o = at + WORD_BYTES;
-    let mut i: usize = 0;
-    while i < count {
+    for i in 0..count {
         let stack = stack_at(image, o, form);
         items[i] = stack;
-        o = o + stack_size(form, stack.depth);
-        i += 1;
+        o += stack_size(form, stack.depth);
     }
-    StackRow {
-        items: items,
-        count: count,
-    }
+    StackRow { items, count }
 }

@@ -5,11 +5,12 @@ ghost use Rattle.accepted.specs.Refusal.{most_bytes};
 ghost use Rattle.lists.specs.Counts.{each};
 ghost use Rattle.writing.specs.Writing.{Wrote};
 ghost use Rattle.image.specs.Words.{word_size};
-ghost use Rattle.image.specs.Image.{width_bodies, image_as, most_image, same_bytes};
+ghost use Rattle.std.specs.Str.{bytes_eq};
+ghost use Rattle.image.specs.Image.{width_bodies, image_as, most_image};
 ghost use Rattle.image.specs.Writes.{WritesImage};
 
 use crate::beliefs::put_beliefs;
-use crate::bytes::{is_same, put_bytes};
+use crate::bytes::put_bytes;
 use crate::events::put_events;
 use crate::form::{Form, contents_size};
 use crate::stacks::put_stacks;
@@ -82,11 +83,10 @@ pub(crate) fn is_image_of(
     s: State,
 ) -> bool
     requires { size ≤ most_bytes }
-    ensures { result ≡ same_bytes image.now (image_as form (take size library) (view_state s)) }
+    ensures { result ≡ bytes_eq image.now (image_as form (take size library) (view_state s)) }
 {
     let mut scratch = [0u8; MOST_IMAGE];
     let own = &library[..size];
     let n = write_image(&mut scratch, form, own, s);
-    let written = &scratch[..n];
-    is_same(image, written)
+    image == &scratch[..n]
 }

@@ -1,5 +1,5 @@
 // Numbers into a lent buffer and out of a slice, the low byte first.
-ghost use Rattle.std.specs.Prelude.{◌≡◌, ◌+◌, ◌*◌, ◌≤◌, min, length};
+ghost use Rattle.std.specs.Prelude.{◌≡◌, ◌+◌, ◌*◌, ◌≤◌, length};
 ghost use Rattle.writing.specs.Writing.{Wrote};
 ghost use Rattle.image.specs.Form.{newest, number_size};
 ghost use Rattle.image.specs.Words.{word_size, word_bytes, words_bytes, words_size, long_words, long_at, farthest, number_bytes, number_at};
@@ -30,11 +30,8 @@ pub(crate) fn put_words(out: &mut [u8], at: usize, words: &[u16]) -> usize
     ensures { Wrote (words_size words.now) out.old out.new at result (words_bytes words.now) }
 {
     let mut o = at;
-    let mut i: usize = 0;
-    while i < words.len() {
-        let word = words[i];
-        o = put_word(out, o, word);
-        i += 1;
+    for word in words {
+        o = put_word(out, o, *word);
     }
     o
 }
@@ -79,14 +76,4 @@ pub(crate) fn number_at(bytes: &[u8], at: usize, form: Form) -> Number
         Form::Narrow => u16_at(bytes, at) as u32,
         Form::Wide => long_at(bytes, at),
     }
-}
-
-// The smaller of two numbers.
-pub(crate) fn least(n: usize, most: usize) -> usize
-    ensures { result ≡ min n most }
-{
-    if n < most {
-        return n;
-    }
-    most
 }

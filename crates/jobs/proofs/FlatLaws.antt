@@ -5,8 +5,7 @@ use native.Mathlib.Omega.{arith}
 use mathlib.Core.Path.{◌≡◌, refl, ap, sym, ◌∙◌}
 use mathlib.Core.List.{List, [], ◌∷◌, ◌++◌, map, append_assoc, append-nil, map-append}
 use lib.ListN.{length, take, drop, set, get_or, replicate, length-set, length-map, length-append, length-take, take-append-drop, drop_of_length-le}
-use lib.Seq.{take-suc-set, take_at, drop-set-lt, drop-drop}
-use Rattle.lists.proofs.LoopLaws.{element_at}
+use lib.Seq.{take-suc-set, take_at, drop-cons, drop-set-lt, drop-drop}
 use Rattle.model.specs.declared.Instance.{Instance}
 use Rattle.model.specs.declared.Origin.{Origin}
 use Rattle.model.specs.declared.Origin.TheVariants.{External}
@@ -83,17 +82,17 @@ written_end items count whole w h = λ i. record { items = filled i; count = cou
 abbrev pub on_stack : ℕ → Instance → ℕ → List Instance → List Job → List Job
 on_stack external x depth below rest = jobs_on external (x ∷ down depth below) ++ rest
 
--- the jobs of the first n stacks from i on
-abbrev pub live_from : List Stack → ℕ → ℕ → List Job
-live_from stacks n i = live (map view_stack (drop i (take n stacks)))
+-- the jobs of the stacks from i on
+abbrev pub live_from : List Stack → ℕ → List Job
+live_from stacks i = live (map view_stack (drop i stacks))
 
 module _ (items : List Stored) (count : ℕ) (whole : List Job) where
   -- the next stack, whose instances are to be written from the top
-  pub written_stack : (stacks : List Stack) (n i depth : ℕ) (d : Stack) → i < n → n ≤ length stacks → depth ≡ depth_of (get_or stacks i d)
-      → Written items count (live_from stacks n i) whole
-      → Written items count (on_stack (get_or stacks i d).external (get_or stacks i d).top depth (get_or stacks i d).below (live_from stacks n (i + 1))) whole
+  pub written_stack : (stacks : List Stack) (i depth : ℕ) (d : Stack) → i < length stacks → depth ≡ depth_of (get_or stacks i d)
+      → Written items count (live_from stacks i) whole
+      → Written items count (on_stack (get_or stacks i d).external (get_or stacks i d).top depth (get_or stacks i d).below (live_from stacks (i + 1))) whole
   unfolding live
-  written_stack stacks n i depth d low high e w = rw e (rw (element_at stacks n i d low high) at w)
+  written_stack stacks i depth d low e w = rw (e, add-one i) (rw (drop-cons stacks i d low) at w)
 
   -- an instance that stands on others serves the goal of the one below
   pub written_poster : (external depth : ℕ) (x poster : Instance) (goal : Origin) (below : List Instance) (rest : List Job)
@@ -116,12 +115,10 @@ module _ (items : List Stored) (count : ℕ) (whole : List Job) where
   written_bottom external (suc depth) x below rest h few w = absurd (omega arith)
 
   -- no stack is left
-  pub written_all : (stacks : List Stack) (n i : ℕ) → n ≤ i → count ≤ 64 → Written items count (live_from stacks n i) whole
+  pub written_all : (stacks : List Stack) (i : ℕ) → length stacks ≤ i → count ≤ 64 → Written items count (live_from stacks i) whole
       → ◌≡◌ {A = Jobs} (record { items = items; count = count }) (flat whole)
   unfolding live
-  written_all stacks n i h few w =
-      let past : length (take n stacks) ≤ i = simp length-take (omega arith) in
-      written_end items count whole (rw (drop_of_length-le (take n stacks) past) at w) few
+  written_all stacks i past few w = written_end items count whole (rw (drop_of_length-le stacks past) at w) few
 
 -- ---- What the array holds
 

@@ -22,12 +22,11 @@ pub fn awoken(x: Instance) -> Instance
 pub fn stepped_to(x: Instance, next: u16, env: Env) -> Instance
     ensures { result ≡ step_to next env x }
 {
-    let active = Status::Active;
     Instance {
-        env: env,
+        env,
         state: next,
         tried: 0,
-        status: active,
+        status: Status::Active,
         ..x
     }
 }
@@ -37,6 +36,5 @@ pub fn past_branch(library: &[u8], x: Instance) -> Instance
     ensures { result ≡ past_branch (library_of library.now) x }
 {
     let branch = place::branch(library, x);
-    let env = x.env;
-    stepped_to(x, branch.next, env)
+    stepped_to(x, branch.next, x.env)
 }

@@ -1,15 +1,14 @@
 // Live instances: their place in the plan, and all of them as one flat array.
 #![tactic(auto)]
 
-ghost use Rattle.std.specs.Prelude.{◌≡◌, map, min, take};
-ghost use Rattle.model.specs.State.{most_stacks};
+ghost use Rattle.std.specs.Prelude.{◌≡◌, map};
 ghost use Rattle.model.specs.Live.{live};
-ghost use Rattle.state.specs.View.{view_stack};
-ghost use Rattle.jobs.specs.Jobs.{no_job, flat};
+ghost use Rattle.state.specs.View.{view_stacks};
+ghost use Rattle.jobs.specs.Jobs.{job_of, no_job, flat, view_jobs};
 
 use model::{Instance, Origin, Status};
 use state::origin::goal_of;
-use state::{MOST_BELOW, MOST_STACKS, Stack};
+use state::{MOST_BELOW, State};
 
 pub mod decision; // what an instance does at its turn
 pub mod instance; // an instance moves on
@@ -22,11 +21,23 @@ pub struct Job {
     pub origin: Origin,
 }
 
+// At most this many instances are live: eight stacks of eight.
+pub const MOST_JOBS: usize = 64;
+
 // The first `count` items are the live instances.
 #[derive(Clone, Copy)]
 pub struct Jobs {
-    pub items: [Job; 64],
+    pub items: [Job; MOST_JOBS],
     pub count: usize,
+}
+
+impl Jobs {
+    // The live instances.
+    pub fn as_slice(&self) -> &[Job]
+        ensures { map job_of result.now ≡ view_jobs self.now }
+    {
+        &self.items[..self.count.min(MOST_JOBS)]
+    }
 }
 
 // ---- All live instances
@@ -34,66 +45,44 @@ pub struct Jobs {
 fn no_job() -> Job
     ensures { result ≡ no_job }
 {
-    let env = literal::empty_env();
-    let status = Status::Active;
-    let nobody = Instance {
-        id: 0,
-        plan: 0,
-        env: env,
-        state: 0,
-        tried: 0,
-        status: status,
-    };
-    let origin = Origin::External(0);
     Job {
-        instance: nobody,
-        origin: origin,
+        instance: Instance {
+            id: 0,
+            plan: 0,
+            env: literal::empty_env(),
+            state: 0,
+            tried: 0,
+            status: Status::Active,
+        },
+        origin: Origin::External(0),
     }
 }
 
-fn least(n: usize, most: usize) -> usize
-    ensures { result ≡ min n most }
+// The live instances, stack by stack, each from the top down with its event: the goal of the one below, or the stack's external event.
+pub fn live_jobs(s: &State) -> Jobs
+    ensures { result ≡ flat (live (view_stacks s.now)) }
 {
-    if n < most {
-        return n;
-    }
-    most
-}
-
-// The instances of the first stacks, each from the top down with its event: the goal of the one below, or the stack's external event.
-pub fn live_jobs(stacks: [Stack; 8], stacked: usize) -> Jobs
-    ensures { result ≡ flat (live (map view_stack (take (min stacked most_stacks) stacks))) }
-{
-    let nobody = no_job();
-    let n = least(stacked, MOST_STACKS);
-    let mut items = [nobody; 64];
+    let mut items = [no_job(); MOST_JOBS];
     let mut count: usize = 0;
-    let mut i: usize = 0;
-    while i < n {
-        let stack = stacks[i];
-        i += 1;
-        let mut depth = least(stack.depth, MOST_BELOW);
+    for stack in s.standing() {
         let mut x = stack.top;
-        while 0 < depth {
-            depth -= 1;
-            let poster = stack.below[depth];
-            let goal = goal_of(poster);
+        let depth = stack.depth.min(MOST_BELOW);
+        for i in (0..depth).rev() {
+            let poster = stack.below[i];
+            let origin = goal_of(poster);
             items[count] = Job {
                 instance: x,
-                origin: goal,
+                origin,
             };
             count += 1;
             x = poster;
         }
-        let external = Origin::External(stack.external);
+        let origin = Origin::External(stack.external);
         items[count] = Job {
             instance: x,
-            origin: external,
+            origin,
         };
         count += 1;
     }
-    Jobs {
-        items: items,
-        count: count,
-    }
+    Jobs { items, count }
 }

@@ -4,12 +4,12 @@ use Prim.Native.Nat.{ℕ}
 use native.Mathlib.Omega.{arith}
 use mathlib.Core.Path.{◌≡◌, refl, ap, sym, subst, ◌∙◌}
 use mathlib.Core.Bool.{false}
-use mathlib.Core.Option.{Option, none, some}
+use Rattle.std.specs.Prelude.{Option, None, Some, Ok}
 use mathlib.Core.List.{List, [], ◌∷◌, ◌++◌, map, append_assoc}
 use lib.Dec.{eqb}
 use lib.ListN.{length}
 use borrow.Author.Tests.{eq-eqb}
-use Rattle.lists.specs.Search.{any}
+use Rattle.std.specs.List.{list_any}
 use Rattle.lists.specs.Counts.{each, Every}
 use Rattle.lists.proofs.BoolLaws.{both_ways, or_parts}
 use Rattle.lists.proofs.CountLaws.{bit_every}
@@ -17,7 +17,6 @@ use Rattle.lists.proofs.OptionLaws.{some_equal, none-some}
 use Rattle.literal.specs.declared.Literal.{Literal}
 use Rattle.belief.specs.Beliefs.{replay}
 use Rattle.library.specs.Layout.{beliefs_of}
-use Rattle.accepted.specs.Refusal.{refusal_of}
 use Rattle.model.specs.declared.Answer.{Answer}
 use Rattle.model.specs.declared.Answer.TheVariants.{Taken, Idle, Dropped, Unmet, MadeExternal, MadeGoal, Stepped, Missed, Done, Posted, Succeeded, Failed, Refused}
 use Rattle.model.specs.State.{Call, Result, view_result}
@@ -33,7 +32,6 @@ use Rattle.stream.specs.declared.Carry.{Carry}
 use Rattle.stream.specs.Lines.{lines}
 use Rattle.stream.specs.Carried.{begun}
 use Rattle.load.specs.declared.Agent.{Agent}
-use Rattle.load.specs.declared.Loaded.{Loaded}
 use Rattle.load.specs.Load.{Loads}
 use Rattle.agent.specs.Chain.{Link, entries_of}
 use Rattle.agent.specs.Feed.{unreadable, Journal}
@@ -64,9 +62,8 @@ note-by_letter h c (Refused n) = refl
 
 -- ---- The output, cut at its newlines
 
-cut : (xs ys s t : List ℕ) → any (eqb newline) xs ≡ false → any (eqb newline) ys ≡ false → xs ++ (newline ∷ s) ≡ ys ++ (newline ∷ t)
+cut : (xs ys s t : List ℕ) → list_any (eqb newline) xs ≡ false → list_any (eqb newline) ys ≡ false → xs ++ (newline ∷ s) ≡ ys ++ (newline ∷ t)
     → (xs ≡ ys) × (s ≡ t)
-unfolding any
 cut [] [] s t p q e = let rest : s ≡ t = cc in (refl, rest)
 cut [] (y ∷ ys) s t p q e = let here : newline ≡ y = cc in both_ways (eq-eqb newline y here) (or_parts (eqb newline y) _ q).0
 cut (x ∷ xs) [] s t p q e = let here : newline ≡ x = cc in both_ways (eq-eqb newline x here) (or_parts (eqb newline x) _ p).0
@@ -104,14 +101,14 @@ unfolding told
 same_told [] [] c e p q = refl
 same_told [] (y ∷ ys) c e p q = let sizes = ap length c in absurd (omega (arith, sizes))
 same_told (x ∷ xs) [] c e p q = let sizes = ap length c in absurd (omega (arith, sizes))
-same_told (none ∷ xs) (none ∷ ys) c e p q =
+same_told (None ∷ xs) (None ∷ ys) c e p q =
     let calls : map call_in xs ≡ map call_in ys = cc in
     same_told xs ys calls (results_cut unreadable unreadable (each text_of xs) (each text_of ys) e).1 (omega (arith, p)) (omega (arith, q))
-same_told (none ∷ xs) (some m ∷ ys) c e p q = let other : none ≡ some m.call = cc in none-some other
-same_told (some k ∷ xs) (none ∷ ys) c e p q = let other : none ≡ some k.call = cc in none-some other
-same_told (some k ∷ xs) (some m ∷ ys) c e p q =
+same_told (None ∷ xs) (Some m ∷ ys) c e p q = let other : None ≡ Some m.call = cc in none-some other
+same_told (Some k ∷ xs) (None ∷ ys) c e p q = let other : None ≡ Some k.call = cc in none-some other
+same_told (Some k ∷ xs) (Some m ∷ ys) c e p q =
     let calls : map call_in xs ≡ map call_in ys = cc in
-    let here : some k.call ≡ some m.call = cc in
+    let here : Some k.call ≡ Some m.call = cc in
     let call = some_equal here in
     let r = view_result k.given.result in
     let s = view_result m.given.result in
@@ -158,17 +155,17 @@ account_by_bytes s t =
 -- so two sessions with the same input and output have one account, whatever their libraries, agents and pieces:
 -- who has the bytes has what demand 3 speaks of
 pub session_account : {a b c d : Agent} {carry other : Carry} {input output : List ℕ}
-    (fresh : begun carry ≡ some []) (fresh-too : begun other ≡ some []) (s : Session a carry input output b) (t : Session c other input output d)
+    (fresh : begun carry ≡ Some []) (fresh-too : begun other ≡ Some []) (s : Session a carry input output b) (t : Session c other input output d)
     → SameAccount (entries_of (links_of (session_answers fresh s).answers)) (entries_of (links_of (session_answers fresh-too t).answers))
 session_account fresh fresh-too s t = account_by_bytes (session_answers fresh s) (session_answers fresh-too t)
 
 -- and demand 3, of a journal of an input's lines on a loaded agent, holds of every such reading of the bytes
-pub journal_reading : (bytes : List ℕ) → refusal_of bytes ≡ 0 → (l : Loaded) → Loads bytes l
-    → (input : List ℕ) {output : List ℕ} {b c d : Agent} → Journal l.agent (map call_of (lines input)) output b
+pub journal_reading : (bytes : List ℕ) (l : Agent) → Loads bytes (Ok l)
+    → (input : List ℕ) {output : List ℕ} {b c d : Agent} → Journal l (map call_of (lines input)) output b
     → (t : Answers c (map call_of (lines input)) output d)
     → Demand3 (beliefs_of bytes) (entries_of (links_of t.answers)) (view_state b.state)
-journal_reading bytes accepted l loads input {b = b} j t =
-    let own = journal_accounted bytes accepted l loads input j in
+journal_reading bytes l loads input {b = b} j t =
+    let own = journal_accounted bytes l loads input j in
     let same = account_by_bytes own.answers t in
     record {
       accounts = subst (λ (h : History). Accounted h (view_state b.state)) same.history_is own.demand_3.accounts;
@@ -176,8 +173,8 @@ journal_reading bytes accepted l loads input {b = b} j t =
     }
 
 -- so of what a session on a loaded agent prints
-pub reading_demand_3 : (bytes : List ℕ) → refusal_of bytes ≡ 0 → (l : Loaded) → Loads bytes l
-    → {b c d : Agent} {carry : Carry} {input output : List ℕ} → begun carry ≡ some [] → Session l.agent carry input output b
+pub reading_demand_3 : (bytes : List ℕ) (l : Agent) → Loads bytes (Ok l)
+    → {b c d : Agent} {carry : Carry} {input output : List ℕ} → begun carry ≡ Some [] → Session l carry input output b
     → (t : Answers c (map call_of (lines input)) output d)
     → Demand3 (beliefs_of bytes) (entries_of (links_of t.answers)) (view_state b.state)
-reading_demand_3 bytes accepted l loads {input = input} fresh s t = journal_reading bytes accepted l loads input (session_journal fresh s) t
+reading_demand_3 bytes l loads {input = input} fresh s t = journal_reading bytes l loads input (session_journal fresh s) t

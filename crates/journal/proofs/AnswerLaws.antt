@@ -3,7 +3,7 @@
 use Prim.Native.Nat.{ℕ, ◌+◌}
 use mathlib.Core.Path.{◌≡◌, refl, ap, sym, subst, ◌∙◌}
 use mathlib.Core.Bool.{true, not}
-use mathlib.Core.Option.{Option, none, some}
+use Rattle.std.specs.Prelude.{Option, None, Some, Ok}
 use mathlib.Core.List.{List, [], ◌∷◌, ◌++◌, map, map-append, append-nil, append_assoc}
 use native.Mathlib.Omega.{arith}
 use lib.Dec.{eqb}
@@ -11,7 +11,6 @@ use lib.ListN.{length, length-map}
 use Rattle.lists.specs.Counts.{bit, count, each, Every}
 use Rattle.lists.proofs.CountLaws.{total-append}
 use Rattle.lists.proofs.TestCounts.{any_none}
-use Rattle.accepted.specs.Refusal.{refusal_of}
 use Rattle.model.specs.State.{Call, Result, view_result}
 use Rattle.model.specs.Lines.{line_of}
 use Rattle.printing.specs.LineText.{newline, result_text, IsLine, fits}
@@ -21,7 +20,6 @@ use Rattle.stream.specs.declared.Carry.{Carry}
 use Rattle.stream.specs.Lines.{lines}
 use Rattle.stream.specs.Carried.{begun}
 use Rattle.load.specs.declared.Agent.{Agent}
-use Rattle.load.specs.declared.Loaded.{Loaded}
 use Rattle.agent.specs.declared.Replied.{Replied}
 use Rattle.load.specs.Load.{Loads}
 use Rattle.agent.specs.Calls.{Calls}
@@ -36,8 +34,8 @@ use Rattle.journal.proofs.SessionLaws.{session_journal}
 
 links_join : (xs ys : List (Option Link)) → links_of (xs ++ ys) ≡ links_of xs ++ links_of ys
 links_join [] ys = refl
-links_join (none ∷ xs) ys = links_join xs ys
-links_join (some link ∷ xs) ys = ap (λ links. link ∷ links) (links_join xs ys)
+links_join (None ∷ xs) ys = links_join xs ys
+links_join (Some link ∷ xs) ys = ap (λ links. link ∷ links) (links_join xs ys)
 
 texts_join : (xs : List (Option Link)) (answer : Option Link) → each text_of (xs ++ (answer ∷ [])) ≡ each text_of xs ++ text_of answer
 texts_join [] answer = append-nil (text_of answer)
@@ -58,24 +56,24 @@ chain_then (Chain.then other k rest) link h = Chain.then other k (chain_then res
 
 module _ {a b : Agent} {calls : List (Option Call)} {text : List ℕ} (s : Answers a calls text b) where
   -- one that cannot be read
-  answers_unread : Answers a (calls ++ (none ∷ [])) (text ++ result_text unreadable) b
+  answers_unread : Answers a (calls ++ (None ∷ [])) (text ++ result_text unreadable) b
   answers_unread = record {
-    answers = s.answers ++ (none ∷ []);
-    lines = map-append call_in s.answers (none ∷ []) ∙ ap (λ cs. cs ++ (none ∷ [])) s.lines;
-    printed = texts_join s.answers none ∙ ap (λ t. t ++ result_text unreadable) s.printed;
-    fit = fits_join s.answers none s.fit refl;
-    chain = subst (λ links. Chain a links b) (sym (links_join s.answers (none ∷ []) ∙ append-nil (links_of s.answers))) s.chain;
+    answers = s.answers ++ (None ∷ []);
+    lines = map-append call_in s.answers (None ∷ []) ∙ ap (λ cs. cs ++ (None ∷ [])) s.lines;
+    printed = texts_join s.answers None ∙ ap (λ t. t ++ result_text unreadable) s.printed;
+    fit = fits_join s.answers None s.fit refl;
+    chain = subst (λ links. Chain a links b) (sym (links_join s.answers (None ∷ []) ∙ append-nil (links_of s.answers))) s.chain;
   }
 
   -- a call
   answers-call : (c : Call) (r : Replied) → Calls b c r → fits (view_result r.result) ≡ true
-      → Answers a (calls ++ (some c ∷ [])) (text ++ result_text (view_result r.result)) r.agent
+      → Answers a (calls ++ (Some c ∷ [])) (text ++ result_text (view_result r.result)) r.agent
   answers-call c r h fit = record {
-    answers = s.answers ++ (some link ∷ []);
-    lines = map-append call_in s.answers (some link ∷ []) ∙ ap (λ cs. cs ++ (some c ∷ [])) s.lines;
-    printed = texts_join s.answers (some link) ∙ ap (λ t. t ++ result_text (view_result r.result)) s.printed;
-    fit = fits_join s.answers (some link) s.fit fit;
-    chain = subst (λ links. Chain a links r.agent) (sym (links_join s.answers (some link ∷ []))) (chain_then s.chain link h);
+    answers = s.answers ++ (Some link ∷ []);
+    lines = map-append call_in s.answers (Some link ∷ []) ∙ ap (λ cs. cs ++ (Some c ∷ [])) s.lines;
+    printed = texts_join s.answers (Some link) ∙ ap (λ t. t ++ result_text (view_result r.result)) s.printed;
+    fit = fits_join s.answers (Some link) s.fit fit;
+    chain = subst (λ links. Chain a links r.agent) (sym (links_join s.answers (Some link ∷ []))) (chain_then s.chain link h);
   }
     where
       link : Link
@@ -101,8 +99,8 @@ result_once : (result : Result) → count (eqb newline) (result_text result) ≡
 result_once result = line_once (result_text result) (one_newline (line_of result))
 
 text_once : (answer : Option Link) → count (eqb newline) (text_of answer) ≡ 1
-text_once none = result_once unreadable
-text_once (some link) = result_once (view_result link.given.result)
+text_once None = result_once unreadable
+text_once (Some link) = result_once (view_result link.given.result)
 
 texts_count : (answers : List (Option Link)) → count (eqb newline) (each text_of answers) ≡ length (map call_in answers)
 texts_count [] = refl
@@ -118,30 +116,30 @@ one_line-each j =
     sym (ap (count (eqb newline)) s.printed) ∙ texts_count s.answers ∙ ap length s.lines
 
 -- demand 3 holds of a journal's text, on an agent that load gives, and 10 is not in it
-pub journal_accounted : (bytes : List ℕ) → refusal_of bytes ≡ 0 → (l : Loaded) → Loads bytes l
-    → (input : List ℕ) {output : List ℕ} {b : Agent} → Journal l.agent (map call_of (lines input)) output b
-    → Accounted bytes l.agent input output b
-journal_accounted bytes accepted l loads input j =
+pub journal_accounted : (bytes : List ℕ) (l : Agent) → Loads bytes (Ok l)
+    → (input : List ℕ) {output : List ℕ} {b : Agent} → Journal l (map call_of (lines input)) output b
+    → Accounted bytes l input output b
+journal_accounted bytes l loads input j =
     let told = journal-chain j in
     record {
       answers = told;
-      demand_3 = ChainLaws.demand_3 bytes accepted l loads told.chain;
-      never_ten = ChainLaws.never_ten bytes accepted l loads told.chain;
+      demand_3 = ChainLaws.demand_3 bytes l loads told.chain;
+      never_ten = ChainLaws.never_ten bytes l loads told.chain;
     }
 
 -- ---- A session
 
-pub session_answers : {a b : Agent} {carry : Carry} {input output : List ℕ} → begun carry ≡ some [] → Session a carry input output b
+pub session_answers : {a b : Agent} {carry : Carry} {input output : List ℕ} → begun carry ≡ Some [] → Session a carry input output b
     → Answers a (map call_of (lines input)) output b
 session_answers fresh s = journal-chain (session_journal fresh s)
 
 -- one line out for each line in
-pub session_lines : {a b : Agent} {carry : Carry} {input output : List ℕ} → begun carry ≡ some [] → Session a carry input output b
+pub session_lines : {a b : Agent} {carry : Carry} {input output : List ℕ} → begun carry ≡ Some [] → Session a carry input output b
     → count (eqb newline) output ≡ length (lines input)
 session_lines {input = input} fresh s = one_line-each (session_journal fresh s) ∙ length-map (lines input) call_of
 
 -- demand 3 holds of what a session prints on an agent that load gives, whatever the library, the input and its pieces; 10 is never printed
-pub session_demand_3 : (bytes : List ℕ) → refusal_of bytes ≡ 0 → (l : Loaded) → Loads bytes l
-    → {b : Agent} {carry : Carry} {input output : List ℕ} → begun carry ≡ some [] → Session l.agent carry input output b
-    → Accounted bytes l.agent input output b
-session_demand_3 bytes accepted l loads {input = input} fresh s = journal_accounted bytes accepted l loads input (session_journal fresh s)
+pub session_demand_3 : (bytes : List ℕ) (l : Agent) → Loads bytes (Ok l)
+    → {b : Agent} {carry : Carry} {input output : List ℕ} → begun carry ≡ Some [] → Session l carry input output b
+    → Accounted bytes l input output b
+session_demand_3 bytes l loads {input = input} fresh s = journal_accounted bytes l loads input (session_journal fresh s)

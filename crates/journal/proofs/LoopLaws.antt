@@ -4,23 +4,21 @@ use native.Mathlib.Omega.{arith}
 use borrow.Author.Tests.{leb-true, eqb-true, eqb-false, eq-eqb, ne_eqb}
 use mathlib.Core.Path.{◌≡◌, refl, ap, sym, subst, subst⁻¹, ◌∙◌}
 use mathlib.Core.Bool.{Bool, true, false, cond}
-use mathlib.Core.Option.{Option, none, some}
+use Rattle.std.specs.Prelude.{Option, None, Some, Ok}
 use mathlib.Core.List.{List, [], ◌∷◌, ◌++◌, append-nil}
 use lib.Dec.{leb, eqb}
 use lib.ListN.{length, length-drop, take, drop, drop_of_length-le}
 use lib.Seq.{drop-drop, drop-nil}
 use Rattle.lists.proofs.BoolLaws.{by_cases, both_ways}
-use Rattle.accepted.specs.Refusal.{refusal_of}
 use Rattle.model.specs.State.{Call, report, cycle, outcome}
 use Rattle.reading.specs.declared.Spoken.{Spoken}
-use Rattle.reading.specs.declared.Spoken.TheVariants.{Report, Cycle, Outcome, Unreadable}
+use Rattle.reading.specs.declared.Spoken.TheVariants.{Report, Cycle, Outcome}
 use Rattle.reading.specs.Spoken.{meaning}
 use Rattle.printing.specs.LineText.{newline, most_line}
 use Rattle.stream.specs.declared.Carry.{Carry}
 use Rattle.stream.specs.Carried.{begun}
 use Rattle.stream.specs.Calls.{at_end, calls_from, line_after}
 use Rattle.load.specs.declared.Agent.{Agent}
-use Rattle.load.specs.declared.Loaded.{Loaded}
 use Rattle.load.specs.Load.{Loads}
 use Rattle.agent.specs.declared.feed.Fed.{Fed}
 use Rattle.agent.specs.Feed.{Feeds}
@@ -72,17 +70,17 @@ module _ (d : Dialogue) (piece rest output : List ℕ) (b : Agent) where
 -- ---- The input's end
 
 -- a call as a line tells it
-abbrev spoken_for : Option Call → Spoken
-spoken_for none = Unreadable
-spoken_for (some (report kind literal)) = Report kind literal
-spoken_for (some cycle) = Cycle
-spoken_for (some (outcome id worked)) = Outcome id worked
+abbrev spoken_for : Option Call → Option Spoken
+spoken_for None = None
+spoken_for (Some (report kind literal)) = Some (Report kind literal)
+spoken_for (Some cycle) = Some Cycle
+spoken_for (Some (outcome id worked)) = Some (Outcome id worked)
 
 spoken_for_lem : (call : Option Call) → meaning (spoken_for call) ≡ call
-spoken_for_lem none = refl
-spoken_for_lem (some (report kind literal)) = refl
-spoken_for_lem (some cycle) = refl
-spoken_for_lem (some (outcome id worked)) = refl
+spoken_for_lem None = refl
+spoken_for_lem (Some (report kind literal)) = refl
+spoken_for_lem (Some cycle) = refl
+spoken_for_lem (Some (outcome id worked)) = refl
 
 -- a feed that has read nothing is a feed of no bytes
 unread_feed : {a : Agent} {carry : Carry} {chunk before after : List ℕ} {r : Fed} → Feeds a carry chunk before after r → r.read ≡ 0
@@ -108,9 +106,9 @@ unread_feed {a} {carry} {chunk} {before} {after} {r} f e =
     }
 
 at_most_one : (held : Option (List ℕ)) → length (at_end held) ≤ 1
-at_most_one none = omega arith
-at_most_one (some []) = omega arith
-at_most_one (some (b ∷ line)) = omega arith
+at_most_one None = omega arith
+at_most_one (Some []) = omega arith
+at_most_one (Some (b ∷ line)) = omega arith
 
 not_one : (n : ℕ) → n ≤ 1 → (n ≡ 1 → ⊥) → n ≡ 0
 not_one zero h other = refl
@@ -212,9 +210,9 @@ loop_session {a} {d} {e} {input} {output} b loop =
     (loop_from loop b.goes_on (λ left. both_ways b.reads left)))
 
 -- on an agent that load gives it prints what the definition computes
-pub loop_printed : (bytes : List ℕ) → refusal_of bytes ≡ 0 → (l : Loaded) → Loads bytes l → {d e : Dialogue} {input output : List ℕ}
-    → Begins l.agent d → Loop d [] input output e → output ≡ printed_for bytes input
-loop_printed bytes accepted l loads b loop = session_printed bytes accepted l loads b.silent (loop_session b loop)
+pub loop_printed : (bytes : List ℕ) (l : Agent) → Loads bytes (Ok l) → {d e : Dialogue} {input output : List ℕ}
+    → Begins l d → Loop d [] input output e → output ≡ printed_for bytes input
+loop_printed bytes l loads b loop = session_printed bytes l loads b.silent (loop_session b loop)
 
 -- ---- It ends
 

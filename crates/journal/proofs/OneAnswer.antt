@@ -4,7 +4,7 @@ use native.Mathlib.Omega.{arith}
 use mathlib.Core.Path.{◌≡◌, refl, ap, sym, ◌∙◌}
 use mathlib.Core.Bool.{cond}
 use mathlib.Core.Logic.{◌⊎◌, inl, inr, ⊎_elim}
-use mathlib.Core.Option.{Option, none, some}
+use Rattle.std.specs.Prelude.{Option, None, Some}
 use mathlib.Core.List.{List, [], ◌∷◌, ◌++◌, append-nil, append_assoc, append_cancel_right}
 use lib.Dec.{ltb, leb, eqb}
 use lib.ListN.{length, take, drop, get_or, length-append, length-take, length-drop, take-append-drop, get_or-append}
@@ -35,40 +35,40 @@ use Rattle.journal.proofs.OutputLaws.{state_by, reply_of, journal_computed, jour
 
 abbrev calls_in : Option (List ℕ) → List ℕ → List (Option Call)
 calls_in held [] = []
-calls_in held (b ∷ bytes) = cond (is_newline b) (said held ∷ calls_in (some []) bytes) (calls_in (more held (b ∷ [])) bytes)
+calls_in held (b ∷ bytes) = cond (is_newline b) (said held ∷ calls_in (Some []) bytes) (calls_in (more held (b ∷ [])) bytes)
 
 calls_split : (held : Option (List ℕ)) (xs ys : List ℕ) → calls_from held (xs ++ ys) ≡ calls_in held xs ++ calls_from (line_after held xs) ys
 calls_split held [] ys = refl
 calls_split held (b ∷ xs) ys =
     by_cases (is_newline b)
-    (λ e. rw e (ap (λ (calls : List (Option Call)). said held ∷ calls) (calls_split (some []) xs ys)))
+    (λ e. rw e (ap (λ (calls : List (Option Call)). said held ∷ calls) (calls_split (Some []) xs ys)))
     (λ e. rw e (calls_split (more held (b ∷ [])) xs ys))
 
 calls_join : (held : Option (List ℕ)) (xs ys : List ℕ) → calls_in held (xs ++ ys) ≡ calls_in held xs ++ calls_in (line_after held xs) ys
 calls_join held [] ys = refl
 calls_join held (b ∷ xs) ys =
     by_cases (is_newline b)
-    (λ e. rw e (ap (λ (calls : List (Option Call)). said held ∷ calls) (calls_join (some []) xs ys)))
+    (λ e. rw e (ap (λ (calls : List (Option Call)). said held ∷ calls) (calls_join (Some []) xs ys)))
     (λ e. rw e (calls_join (more held (b ∷ [])) xs ys))
 
 -- a line that goes on is not empty
-more_begun : (held : Option (List ℕ)) (b : ℕ) → more held (b ∷ []) ≡ some [] → ⊥
+more_begun : (held : Option (List ℕ)) (b : ℕ) → more held (b ∷ []) ≡ Some [] → ⊥
 unfolding kept
-more_begun none b e = none-some e
-more_begun (some line) b e =
+more_begun None b e = none-some e
+more_begun (Some line) b e =
     by_cases (leb (length (line ++ (b ∷ []))) mostRead)
     (λ p. let none_left = ap length (some_equal (rw p at e)) in absurd (omega (arith, length-append line (b ∷ []), none_left)))
     (λ p. none-some (rw p at e))
 
 -- so where no line ends in some bytes, one has begun behind them
-none_ends : (held : Option (List ℕ)) (bytes : List ℕ) → (held ≡ some [] → ⊥) → calls_in held bytes ≡ [] → line_after held bytes ≡ some [] → ⊥
+none_ends : (held : Option (List ℕ)) (bytes : List ℕ) → (held ≡ Some [] → ⊥) → calls_in held bytes ≡ [] → line_after held bytes ≡ Some [] → ⊥
 none_ends held [] has c e = has e
 none_ends held (b ∷ bytes) has c e =
     by_cases (is_newline b)
     (λ n. let one = ap length (rw n at c) in absurd (omega (arith, one)))
     (λ n. none_ends (more held (b ∷ [])) bytes (more_begun held b) (rw n at c) (rw n at e))
 
-stays_begun : (held : Option (List ℕ)) (bytes : List ℕ) → 0 < length bytes → calls_in held bytes ≡ [] → line_after held bytes ≡ some [] → ⊥
+stays_begun : (held : Option (List ℕ)) (bytes : List ℕ) → 0 < length bytes → calls_in held bytes ≡ [] → line_after held bytes ≡ Some [] → ⊥
 stays_begun held [] h c e = absurd (omega (arith, h))
 stays_begun held (b ∷ bytes) h c e =
     by_cases (is_newline b)

@@ -3,7 +3,7 @@
 use Prim.Native.Nat.{ℕ, zero, suc, ◌+◌, ◌≤◌, ◌<◌}
 use native.Mathlib.Omega.{arith}
 use mathlib.Core.Path.{◌≡◌, refl, ap, sym, ◌∙◌}
-use mathlib.Core.Option.{Option, some}
+use Rattle.std.specs.Prelude.{Option, Some}
 use mathlib.Core.List.{List, [], ◌∷◌, ◌++◌, map}
 use lib.ListN.{length, length-append, drop}
 use lib.Seq.{length-sets}
@@ -27,7 +27,7 @@ lines-ended : (held : Option (List ℕ)) (input : List ℕ) → length (calls_fr
 lines-ended held [] = refl
 lines-ended held (b ∷ input) =
     by_cases (is_newline b)
-    (λ e. let rest = lines-ended (some []) input in rw e (omega (arith, rest)))
+    (λ e. let rest = lines-ended (Some []) input in rw e (omega (arith, rest)))
     (λ e. let rest = lines-ended (more held (b ∷ [])) input in rw e (omega (arith, rest)))
 
 -- no lines have no text
@@ -66,7 +66,7 @@ module _ {a : Agent} {carry : Carry} {piece before after : List ℕ} {r : Fed} (
   feed_reads h = reads r.read refl
     where
       reads : (n : ℕ) → n ≡ r.read → 0 < r.read
-      reads zero p = let none = none_left (sym p) (length piece) refl in absurd (omega (arith, none, h))
+      reads zero p = let None = none_left (sym p) (length piece) refl in absurd (omega (arith, None, h))
       reads (suc n) p = omega (arith, p)
 
 -- so one feed reads the newline at the input's end

@@ -2,7 +2,7 @@
 use Prim.Native.Nat.{ℕ, ◌+◌, ◌≤◌}
 use native.Mathlib.Omega.{arith}
 use mathlib.Core.Path.{◌≡◌, refl, ap, sym, subst, subst⁻¹, ◌∙◌}
-use mathlib.Core.Option.{Option, none, some}
+use Rattle.std.specs.Prelude.{Option, None, Some}
 use mathlib.Core.List.{List, [], ◌∷◌, ◌++◌, map, append-nil, append_assoc}
 use lib.ListN.{length, length-append, take, drop}
 use lib.Seq.{length-sets, take_at}
@@ -42,20 +42,20 @@ pub journal_join : {a b c : Agent} {calls more : List (Option Call)} {text furth
 journal_join {a} {b} {c} {calls} {more} {text} {further} j start =
     subst⁻¹ (λ xs. Journal a xs (text ++ []) b) (append-nil calls) (subst⁻¹ (λ t. Journal a calls t b) (append-nil text) j)
 journal_join {a} {b} {c} {calls} {more} {text} {further} j (unread {calls = xs} {text = t} k) =
-    subst (λ ys. Journal a ys (text ++ (t ++ result_text unreadable)) c) (append_assoc calls xs (none ∷ []))
-    (subst (λ l. Journal a ((calls ++ xs) ++ (none ∷ [])) l c) (append_assoc text t (result_text unreadable)) (unread (journal_join j k)))
+    subst (λ ys. Journal a ys (text ++ (t ++ result_text unreadable)) c) (append_assoc calls xs (None ∷ []))
+    (subst (λ l. Journal a ((calls ++ xs) ++ (None ∷ [])) l c) (append_assoc text t (result_text unreadable)) (unread (journal_join j k)))
 journal_join {a} {b} {c} {calls} {more} {text} {further} j (answered {calls = xs} {text = t} k call r h fit) =
     let line = result_text (view_result r.result) in
-    subst (λ ys. Journal a ys (text ++ (t ++ line)) c) (append_assoc calls xs (some call ∷ []))
-    (subst (λ l. Journal a ((calls ++ xs) ++ (some call ∷ [])) l c) (append_assoc text t line) (answered (journal_join j k) call r h fit))
+    subst (λ ys. Journal a ys (text ++ (t ++ line)) c) (append_assoc calls xs (Some call ∷ []))
+    (subst (λ l. Journal a ((calls ++ xs) ++ (Some call ∷ [])) l c) (append_assoc text t line) (answered (journal_join j k) call r h fit))
 
 -- ---- The input's end
 
 -- a newline ends a line that has begun as the input's end does
 newline_ends : (held : Option (List ℕ)) (call : Option Call) → call ∷ [] ≡ at_end held → calls_from held (newline ∷ []) ≡ at_end held
-newline_ends none call e = refl
-newline_ends (some []) call e = absurd (let n : 1 ≡ 0 = ap length e in omega (arith, n))
-newline_ends (some (b ∷ line)) call e = refl
+newline_ends None call e = refl
+newline_ends (Some []) call e = absurd (let n : 1 ≡ 0 = ap length e in omega (arith, n))
+newline_ends (Some (b ∷ line)) call e = refl
 
 pub nothing_in : {A : Type 0} (xs : List A) → length xs ≡ 0 → xs ≡ []
 nothing_in [] e = refl
@@ -86,7 +86,7 @@ session_calls {a} {b} {carry} (ends call e written r w read) =
     subst⁻¹ (λ calls. Journal a calls written r.agent) same (subst⁻¹ (λ t. Journal a f.calls t r.agent) (writes_text w) f.journal)
 
 -- the output of a session is the answers to the lines of its input, each line's once and in order, by the agent's calls
-pub session_journal : {a b : Agent} {carry : Carry} {input output : List ℕ} → begun carry ≡ some [] → Session a carry input output b
+pub session_journal : {a b : Agent} {carry : Carry} {input output : List ℕ} → begun carry ≡ Some [] → Session a carry input output b
     → Journal a (map call_of (lines input)) output b
 session_journal {a} {b} {carry} {input} {output} e s =
     subst (λ calls. Journal a calls output b) (ap (λ o. calls_from o input) e ∙ calls-lines input) (session_calls s)

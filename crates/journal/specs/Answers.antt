@@ -1,6 +1,5 @@
 -- The lines of an input with their answers (document 01, "One line out for each"): those that are calls form a chain of contracts.
-use Rattle.std.specs.Prelude.{ℕ, ◌≡◌, Bool, true, List, [], ◌∷◌, map}
-use Rattle.std.proofs.Math.Option.{Option, none, some}
+use Rattle.std.specs.Prelude.{ℕ, ◌≡◌, Bool, true, List, [], ◌∷◌, map, Option, None, Some}
 use Rattle.lists.specs.Counts.{each, Every}
 use Rattle.library.specs.Layout.{beliefs_of}
 use Rattle.model.specs.State.{Call, view_result}
@@ -16,24 +15,24 @@ use Rattle.agent.specs.Feed.{unreadable}
 
 -- a line with its answer is a call and what it gave; none: a line that cannot be read
 abbrev pub call_in : Option Link → Option Call
-call_in none = none
-call_in (some link) = some link.call
+call_in None = None
+call_in (Some link) = Some link.call
 
 -- what is printed for it
 abbrev pub text_of : Option Link → List ℕ
-text_of none = result_text unreadable
-text_of (some link) = result_text (view_result link.given.result)
+text_of None = result_text unreadable
+text_of (Some link) = result_text (view_result link.given.result)
 
 -- no other result has its text
 abbrev pub fits_answer : Option Link → Bool
-fits_answer none = true
-fits_answer (some link) = fits (view_result link.given.result)
+fits_answer None = true
+fits_answer (Some link) = fits (view_result link.given.result)
 
 -- the calls among them
 abbrev pub links_of : List (Option Link) → List Link
 links_of [] = []
-links_of (none ∷ answers) = links_of answers
-links_of (some link ∷ answers) = link ∷ links_of answers
+links_of (None ∷ answers) = links_of answers
+links_of (Some link ∷ answers) = link ∷ links_of answers
 
 -- from an agent, by what lines say and the text of their answers, to the agent after them
 pub record Answers (a : Agent) (calls : List (Option Call)) (text : List ℕ) (b : Agent) : Type 0 where

@@ -1,6 +1,5 @@
 -- What the program prints (document 01, "Journal"), computed from the library's bytes and the input.
-use Rattle.std.specs.Prelude.{ℕ, cond, List, [], ◌∷◌, ◌++◌, map, ltb, eqb, length}
-use Rattle.std.proofs.Math.Option.{Option}
+use Rattle.std.specs.Prelude.{ℕ, cond, List, [], ◌∷◌, ◌++◌, map, ltb, eqb, length, Option}
 use Rattle.library.specs.Plan.{Library}
 use Rattle.library.specs.Layout.{library_of}
 use Rattle.accepted.specs.Refusal.{refusal_of}

@@ -1,9 +1,8 @@
 -- A whole input (document 01, "Journal"): feeds, each of which its contract ensures of the agent and the line so far before it.
 -- So what is said of a session is said of the code, by its contracts alone.
-use Rattle.std.specs.Prelude.{ℕ, ◌≡◌, List, [], ◌∷◌, ◌++◌, take, drop}
+use Rattle.std.specs.Prelude.{ℕ, ◌≡◌, List, [], ◌∷◌, ◌++◌, take, drop, Option, None, Some}
 use Rattle.reading.specs.declared.Spoken.{Spoken}
 use Rattle.stream.specs.declared.Carry.{Carry}
-use Rattle.stream.specs.declared.Last.TheVariants.{Line, Nothing}
 use Rattle.stream.specs.Carried.{begun}
 use Rattle.stream.specs.Calls.{at_end, shown_last}
 use Rattle.printing.specs.LineText.{newline}
@@ -24,8 +23,8 @@ pub data Session : Agent → Carry → List ℕ → List ℕ → Agent → Type 
   feeds : {a b : Agent} {carry : Carry} {output : List ℕ} (piece rest written : List ℕ) (r : Fed) → Writes a carry piece written r
       → Session r.agent r.carry (drop r.read piece ++ rest) output b → Session a carry (piece ++ rest) (written ++ output) b
   -- the input is at its end, and `last_line` tells that nothing has begun
-  stops : {a : Agent} {carry : Carry} → shown_last Nothing ≡ at_end (begun carry) → Session a carry [] [] a
+  stops : {a : Agent} {carry : Carry} → shown_last None ≡ at_end (begun carry) → Session a carry [] [] a
   -- or it tells a line: a newline is fed, which ends it
-  ends : {a : Agent} {carry : Carry} (call : Spoken) → shown_last (Line call) ≡ at_end (begun carry)
+  ends : {a : Agent} {carry : Carry} (call : Option Spoken) → shown_last (Some call) ≡ at_end (begun carry)
       → (written : List ℕ) (r : Fed) → Writes a carry (newline ∷ []) written r → r.read ≡ 1
       → Session a carry [] written r.agent

@@ -5,6 +5,8 @@ use native.Mathlib.Omega.{arith}
 use mathlib.Core.Path.{◌≡◌, refl, ap, sym, subst, subst⁻¹, ◌∙◌}
 use mathlib.Core.Bool.{Bool, true, false, ◌&&◌}
 use mathlib.Core.List.{List, [], ◌∷◌}
+use Rattle.std.specs.Prelude.{Result, Ok}
+use Rattle.refusals.specs.declared.Refusal.{Refusal}
 use Rattle.lists.specs.Counts.{Every}
 use Rattle.lists.proofs.BoolLaws.{by_cases, and_parts}
 use Rattle.literal.specs.declared.Literal.{Literal}
@@ -15,7 +17,6 @@ use Rattle.belief.specs.Beliefs.{view, are_beliefs, change, replay}
 use Rattle.belief.specs.Table.{add, remove}
 use Rattle.belief.proofs.BeliefLaws.{table-both, replay_join}
 use Rattle.library.specs.Layout.{library_of, beliefs_of}
-use Rattle.accepted.specs.Refusal.{refusal_of}
 use Rattle.model.specs.State.{AgentState, Call, Reply, view_result}
 use Rattle.model.specs.Changes.{alters, effective, are_effective}
 use Rattle.model.specs.Calls.{call_by, call}
@@ -24,17 +25,15 @@ use Rattle.model.proofs.CallLaws.{promises}
 use Rattle.model.proofs.AcceptedLibrary.{acceptable}
 use Rattle.state.specs.View.{view_state}
 use Rattle.load.specs.declared.Agent.{Agent}
-use Rattle.load.specs.declared.Loaded.{Loaded}
 use Rattle.agent.specs.declared.Replied.{Replied}
 use Rattle.load.specs.Load.{bytes_of, Holds, Loads, is_well_formed_agent}
 use Rattle.agent.specs.Calls.{view_replied, Calls}
 use Rattle.agent.specs.Chain.{Link, Chain}
 use Rattle.formed.proofs.WellFormedLaws.{test_parts}
 use Rattle.trials.proofs.AlteredLaws.{change-removes, change-adds}
-use Rattle.change.specs.declared.Changed.{Changed}
 use Rattle.change.specs.Changes.{step, steps, changed}
 use Rattle.change.proofs.ChangeLaws.{passed_open, Sound, step_sound, steps_sound, changed_sound}
-use Rattle.ledger.specs.Ledger.{changes_of, reported, Copied, is_accepted, Agrees}
+use Rattle.ledger.specs.Ledger.{changes_of, reported, after, Copied, is_accepted, Agrees}
 use Rattle.ledger.specs.Ledger as Ledger
 
 -- ---- What the agent's results report
@@ -123,63 +122,67 @@ steps_effect table h (c ∷ changes) e =
 -- ---- The copy and the agent
 
 -- the call was accepted, its table keeps the rules and has the agent's beliefs
-record Follows (answer : Changed) (b : Agent) : Type 0 where
-  accepted : answer.refusal ≡ 0
-  sound : Sound answer.table
-  agrees : Agrees answer.table b
+record Follows (answer : Result Beliefs Refusal) (b : Agent) : Type 0 where
+  table : Beliefs
+  accepted : answer ≡ Ok table
+  sound : Sound table
+  agrees : Agrees table b
 
 follows : (table : Beliefs) → Sound table → (a b : Agent) → Agrees table a → (changes : List Change) → Tracks a changes b
-    → (answer : Changed) → answer ≡ changed table changes → Follows answer b
+    → (answer : Result Beliefs Refusal) → answer ≡ changed table changes → Follows answer b
 follows table h a b same changes t answer e =
-    let is : answer ≡ record { refusal = 0; table = steps table changes } = e ∙ changed_sound table h changes in
     let effect = subst⁻¹ (λ (bs : List Literal). are_effective bs changes ≡ true) same t.effect in
-    subst⁻¹ (λ (r : Changed). Follows r b) is (record {
-      accepted = refl;
+    record {
+      table = steps table changes;
+      accepted = e ∙ changed_sound table h changes;
       sound = steps_sound table h changes;
       agrees = steps_effect table h changes effect ∙ ap (λ (bs : List Literal). replay bs changes) same ∙ sym t.table;
-    })
+    }
 
 module _ {a b : Agent} {links : List Link} (c : Chain a links b) (table : Beliefs) (h : Sound table) (same : Agrees table a) where
   -- from any agent, and any table with its beliefs: all reported changes in one call
-  pub reported-agrees : (answer : Changed) → answer ≡ changed table (reported links) → (answer.refusal ≡ 0) × Agrees answer.table b
+  pub reported-agrees : (answer : Result Beliefs Refusal) → answer ≡ changed table (reported links)
+      → (last : Beliefs) × (answer ≡ Ok last) × Agrees last b
   reported-agrees answer e =
-      let all = follows table h a b same (reported links) (chain_tracks c) answer e in (all.accepted, all.agrees)
+      let all = follows table h a b same (reported links) (chain_tracks c) answer e in (all.table, all.accepted, all.agrees)
 
 -- and call by call
-pub copied-agrees : {a b : Agent} {links : List Link} {answers : List Changed} {table last : Beliefs} → Chain a links b → Copied table links answers last
-    → Sound table → Agrees table a → Every is_accepted answers × Agrees last b
+pub copied-agrees : {a b : Agent} {links : List Link} {answers : List (Result Beliefs Refusal)} {table last : Beliefs} → Chain a links b
+    → Copied table links answers last → Sound table → Agrees table a → Every is_accepted answers × Agrees last b
 copied-agrees Chain.start Ledger.start h same = (refl, same)
 copied-agrees {a = a} {table = table} (Chain.then link c rest) (Ledger.then _ answer e copied) h same =
     let one = follows table h a link.given.agent same (changes_of link) (call_tracks a link.call link.given c) answer e in
-    let more = copied-agrees rest copied one.sound one.agrees in
+    let kept : after table answer ≡ one.table = ap (after table) one.accepted in
+    let more = copied-agrees rest copied (subst⁻¹ Sound kept one.sound)
+    (subst⁻¹ (λ (t : Beliefs). Agrees t link.given.agent) kept one.agrees) in
     (rw one.accepted (omega (arith, more.0)), more.1)
 
 -- ---- From a loaded agent: the ledger begins with the loaded beliefs
 
-module _ (bytes : List ℕ) (accepted : refusal_of bytes ≡ 0) (l : Loaded) (loads : Loads bytes l)
-    {b : Agent} {links : List Link} (c : Chain l.agent links b) where
+module _ (bytes : List ℕ) (l : Agent) (loads : Loads bytes (Ok l)) {b : Agent} {links : List Link} (c : Chain l links b) where
   module _ (table : Beliefs) (begins : Holds (beliefs_of bytes) table) where
     begins_sound : Sound table
     unfolding library_of
     begins_sound = record {
       places = begins.places;
       rules = table-both table begins.few
-          (subst⁻¹ (λ (bs : List Literal). are_beliefs bs ≡ true) begins.means (acceptable bytes accepted).beliefs);
+          (subst⁻¹ (λ (bs : List Literal). are_beliefs bs ≡ true) begins.means (acceptable bytes loads.accepted).beliefs);
     }
 
-    begins_same : Agrees table l.agent
+    begins_same : Agrees table l
     unfolding library_of
-    begins_same = begins.means ∙ ap (λ (s : AgentState). s.beliefs) (sym (loads.state accepted))
+    begins_same = begins.means ∙ ap (λ (s : AgentState). s.beliefs) (sym loads.state)
 
     -- the change call on all the changes that the results report is accepted, and gives the agent's belief table
-    pub ledger_agrees : (answer : Changed) → answer ≡ changed table (reported links) → (answer.refusal ≡ 0) × Agrees answer.table b
+    pub ledger_agrees : (answer : Result Beliefs Refusal) → answer ≡ changed table (reported links)
+        → (last : Beliefs) × (answer ≡ Ok last) × Agrees last b
     ledger_agrees = reported-agrees c table begins_sound begins_same
 
     -- the change call on the changes of each result, one call after the other, is always accepted, and keeps the agent's belief table
-    pub copy_agrees : {answers : List Changed} {last : Beliefs} → Copied table links answers last → Every is_accepted answers × Agrees last b
+    pub copy_agrees : {answers : List (Result Beliefs Refusal)} {last : Beliefs} → Copied table links answers last → Every is_accepted answers × Agrees last b
     copy_agrees copied = copied-agrees c copied begins_sound begins_same
 
   -- so does a ledger that begins with the table of the agent that load gave
-  pub loaded_copy_agrees : {answers : List Changed} {last : Beliefs} → Copied l.agent.state.beliefs links answers last
+  pub loaded_copy_agrees : {answers : List (Result Beliefs Refusal)} {last : Beliefs} → Copied l.state.beliefs links answers last
       → Every is_accepted answers × Agrees last b
-  loaded_copy_agrees = copy_agrees l.agent.state.beliefs (loads.table accepted)
+  loaded_copy_agrees = copy_agrees l.state.beliefs loads.table

@@ -6,18 +6,15 @@ use native.Mathlib.Omega.{arith}
 use lib.ListN.{length, get_or}
 use Rattle.library.specs.Plan.{Plan, no_literal, no_action, no_branch}
 use Rattle.library.specs.Bytes.{u16_at, literal_at, action_at, branch_at, items, rows_end}
-use Rattle.library.specs.Layout.{actions_at, states_at, plan_of, plan_count, belief_count, beliefs_off, beliefs_of, entry_off, entry_length, library_of}
+use Rattle.library.specs.Layout.{actions_at, states_at, plan_of, plan_count, belief_count, beliefs_off, beliefs_of, library_of}
 use Rattle.library.proofs.PastEnd.{u16_past}
 use Rattle.library.proofs.RowLaws.{length-items, length-rows, get_d_items, items-past, get_d_rows, rows-past}
 
 module _ (bytes : List ℕ) where
   -- ---- Contents
 
-  pub entry_past : (plan : ℕ) → length bytes / 4 ≤ plan → entry_off bytes plan ≡ 0
-  entry_past plan h = u16_past bytes (4 + 4 * plan) (omega arith)
-
-  pub entry_length-past : (plan : ℕ) → length bytes / 4 ≤ plan → entry_length bytes plan ≡ 0
-  entry_length-past plan h = u16_past bytes (4 + 4 * plan + 2) (omega arith)
+  pub entry_past : (plan place : ℕ) → length bytes / 4 ≤ plan → u16_at bytes (4 + 4 * plan + place) ≡ 0
+  entry_past plan place h = u16_past bytes (4 + 4 * plan + place) (omega arith)
 
   pub length-beliefs : length (beliefs_of bytes) ≡ belief_count bytes
   unfolding beliefs_of

@@ -15,23 +15,23 @@ module _ (bytes : List ℕ) where
   unfolding u16_at
   u16_past at past = rw (byte_past at past, byte_past (at + 1) (omega arith))
 
-  pub literal-past : (at : ℕ) → length bytes ≤ at → literal_at bytes at ≡ no_literal
-  literal-past at past =
+  pub literal_past : (at : ℕ) → length bytes ≤ at → literal_at bytes at ≡ no_literal
+  literal_past at past =
       let head = u16_past at past in
       let first = u16_past (at + 2) (omega arith) in
       let second = u16_past (at + 4) (omega arith) in
       let third = u16_past (at + 6) (omega arith) in
       λ i. record { head = head i; first = first i; second = second i; third = third i }
 
-  pub action-past : (at : ℕ) → length bytes ≤ at → action_at bytes at ≡ no_action
-  action-past at past =
+  pub action_past : (at : ℕ) → length bytes ≤ at → action_at bytes at ≡ no_action
+  action_past at past =
       let kind = u16_past at past in
-      let literal = literal-past (at + 2) (omega arith) in
+      let literal = literal_past (at + 2) (omega arith) in
       λ i. record { kind = kind i; literal = literal i }
 
-  pub branch-past : (at : ℕ) → length bytes ≤ at → branch_at bytes at ≡ no_branch
-  branch-past at past =
+  pub branch_past : (at : ℕ) → length bytes ≤ at → branch_at bytes at ≡ no_branch
+  branch_past at past =
       let kind = u16_past at past in
-      let literal = literal-past (at + 2) (omega arith) in
+      let literal = literal_past (at + 2) (omega arith) in
       let next = u16_past (at + 10) (omega arith) in
       λ i. record { kind = kind i; literal = literal i; next = next i }

@@ -1,5 +1,5 @@
 // Numbers, literals, actions and branches at an offset of some bytes. Past the end every byte is 0.
-ghost use Rattle.std.specs.Prelude.{◌≡◌, ◌+◌, ◌*◌, ◌<◌, length, get_or};
+ghost use Rattle.std.specs.Prelude.{◌≡◌, get_or};
 ghost use Rattle.library.specs.Plan.{no_literal, no_action, no_branch};
 ghost use Rattle.library.specs.Bytes.{u16_at, literal_at, action_at, branch_at};
 
@@ -53,20 +53,11 @@ pub fn no_branch() -> Branch
 pub fn byte_at(bytes: &[u8], at: usize) -> u8
     ensures { result ≡ get_or bytes.now at 0 }
 {
-    if bytes.len() <= at {
-        return 0;
-    }
-    bytes[at]
+    bytes.get(at).copied().unwrap_or(0)
 }
 
-// The number of 16 bits that two bytes make, low byte first.
-fn number(low: u8, high: u8) -> u16
-    ensures { result ≡ low + 256 * high }
-{
-    low as u16 + 256 * (high as u16)
-}
-
-// A number of 16 bits, low byte first.
+// A number of 16 bits, low byte first. By indices: by patterns of `bytes.get(at..)` a plan's reads take 1.3 times as long.
+#[tactic(auto, using(crate::proofs::PastEnd::byte_past), unfolding(crate::specs::Bytes::u16_at))]
 pub fn u16_at(bytes: &[u8], at: usize) -> u16
     ensures { result ≡ u16_at bytes.now at }
 {
@@ -74,28 +65,12 @@ pub fn u16_at(bytes: &[u8], at: usize) -> u16
         return 0;
     }
     if bytes.len() - at < 2 {
-        return bytes[at] as u16;
+        return u16::from(bytes[at]);
     }
-    number(bytes[at], bytes[at + 1])
+    u16::from_le_bytes([bytes[at], bytes[at + 1]])
 }
 
-// A literal, number by number: any of them may be past the end.
-fn literal_by_parts(bytes: &[u8], at: usize) -> Literal
-    requires { at < length bytes.now }
-    ensures { result ≡ literal_at bytes.now at }
-{
-    let head = u16_at(bytes, at);
-    let first = u16_at(bytes, at + 2);
-    let second = u16_at(bytes, at + 4);
-    let third = u16_at(bytes, at + 6);
-    Literal {
-        head: head,
-        first: first,
-        second: second,
-        third: third,
-    }
-}
-
+// A literal that is there whole is read at once; by a pattern of `bytes.get(at..)` the test of a library takes 1.3 times as long.
 pub fn literal_at(bytes: &[u8], at: usize) -> Literal
     ensures { result ≡ literal_at bytes.now at }
 {
@@ -103,46 +78,44 @@ pub fn literal_at(bytes: &[u8], at: usize) -> Literal
         return no_literal();
     }
     if bytes.len() - at < LITERAL_BYTES {
-        return literal_by_parts(bytes, at);
+        return Literal {
+            head: u16_at(bytes, at),
+            first: u16_at(bytes, at + 2),
+            second: u16_at(bytes, at + 4),
+            third: u16_at(bytes, at + 6),
+        };
     }
-    let head = number(bytes[at], bytes[at + 1]);
-    let first = number(bytes[at + 2], bytes[at + 3]);
-    let second = number(bytes[at + 4], bytes[at + 5]);
-    let third = number(bytes[at + 6], bytes[at + 7]);
     Literal {
-        head: head,
-        first: first,
-        second: second,
-        third: third,
+        head: u16::from_le_bytes([bytes[at], bytes[at + 1]]),
+        first: u16::from_le_bytes([bytes[at + 2], bytes[at + 3]]),
+        second: u16::from_le_bytes([bytes[at + 4], bytes[at + 5]]),
+        third: u16::from_le_bytes([bytes[at + 6], bytes[at + 7]]),
     }
 }
 
+#[tactic(auto, using(crate::proofs::PastEnd::action_past))]
 pub fn action_at(bytes: &[u8], at: usize) -> Action
     ensures { result ≡ action_at bytes.now at }
 {
     if bytes.len() <= at {
         return no_action();
     }
-    let kind = u16_at(bytes, at);
-    let literal = literal_at(bytes, at + 2);
     Action {
-        kind: kind,
-        literal: literal,
+        kind: u16_at(bytes, at),
+        literal: literal_at(bytes, at + 2),
     }
 }
 
+#[tactic(auto, using(crate::proofs::PastEnd::branch_past))]
 pub fn branch_at(bytes: &[u8], at: usize) -> Branch
     ensures { result ≡ branch_at bytes.now at }
 {
     if bytes.len() <= at {
         return no_branch();
     }
-    let kind = u16_at(bytes, at);
-    let literal = literal_at(bytes, at + 2);
-    let next = u16_at(bytes, at + NEXT_STATE);
     Branch {
-        kind: kind,
-        literal: literal,
-        next: next,
+        kind: u16_at(bytes, at),
+        literal: literal_at(bytes, at + 2),
+        next: u16_at(bytes, at + NEXT_STATE),
     }
 }

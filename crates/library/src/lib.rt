@@ -5,19 +5,21 @@ use literal::Literal;
 
 pub mod bytes; // bytes.rt: numbers, literals, actions and branches at an offset
 pub mod contents; // contents.rt: the numbers of plans and beliefs, the entries, the beliefs
+pub mod kinds; // kinds.rt: what the numbers of kinds name
 pub mod plan; // plan.rt: the parts of a plan
 
-// An action of a success or failure list: kind 0 adds the literal, 1 removes it.
+// The most plans of a library.
+pub const MOST_PLANS: u16 = 32;
+
+// An action of a success or failure list: its kind is that of a `Deed`.
+// The kind is a number, as a branch's is: any 16 bits can stand there, so a narrower type would ask more of callers.
 #[derive(Clone, Copy)]
 pub struct Action {
     pub kind: u16,
     pub literal: Literal,
 }
 
-// The kind of a branch that divides, and the last kind of a branch.
-pub const DIVIDE: u16 = 5;
-
-// A branch: kind 0 adds, 1 removes, 2 acts outside, 3 achieves, 4 queries, 5 divides; then the state that it leads to.
+// A branch: its kind is that of a `Deed`, a number as an action's; then the state that it leads to.
 #[derive(Clone, Copy)]
 pub struct Branch {
     pub kind: u16,

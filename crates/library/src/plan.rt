@@ -1,7 +1,7 @@
 // The parts of a plan, by its number. Each function is total: on bytes off the layout it reads what stands where the part would.
 ghost use Rattle.std.specs.Prelude.{◌≡◌, [], ◌+◌, ◌*◌, ◌<◌, ◌≤◌, ◌^◌, length, get_or};
 ghost use Rattle.library.specs.Plan.{no_action, no_branch};
-ghost use Rattle.library.specs.Bytes.{rows_end};
+ghost use Rattle.library.specs.Bytes.{u16_at, rows_end};
 ghost use Rattle.library.specs.Layout.{situation_end, actions_at, actions_end, states_at, plan_of, entry_off};
 ghost use Rattle.library.specs.Layout.{context_off, maintenance_off, success_off, failure_off, states_off};
 
@@ -28,57 +28,59 @@ fn rows_end(bytes: &[u8], from: usize, n: usize, width: usize) -> usize
     ensures small { result ≤ from + 786422 * n }
 {
     let mut at = from;
-    let mut left = n;
-    while 0 < left {
-        let count = u16_at(bytes, at) as usize;
-        at = at + 2 + width * count;
-        left -= 1;
+    for _ in 0..n {
+        at += 2 + width * u16_at(bytes, at) as usize;
     }
     at
 }
 
+#[tactic(auto, unfolding(crate::specs::Layout::situation_end))]
 fn situation_end(bytes: &[u8], at: usize) -> usize
     requires { at < 2 ^ 50 }
     ensures value { result ≡ situation_end bytes.now at }
     ensures small { result < at + 2 ^ 36 }
 {
-    let alternatives = u16_at(bytes, at) as usize;
-    rows_end(bytes, at + 2, alternatives, LITERAL_BYTES)
+    rows_end(bytes, at + 2, u16_at(bytes, at) as usize, LITERAL_BYTES)
 }
 
+#[tactic(auto, unfolding(crate::specs::Layout::actions_end))]
 fn actions_end(bytes: &[u8], at: usize) -> usize
     requires { at < 2 ^ 50 }
     ensures value { result ≡ actions_end bytes.now at }
     ensures small { result < at + 2 ^ 36 }
 {
-    let count = u16_at(bytes, at) as usize;
-    at + 2 + ACTION_BYTES * count
+    at + 2 + ACTION_BYTES * u16_at(bytes, at) as usize
 }
 
 // ---- Trigger, context and maintenance
 
+// A trigger's kind with its mark.
+fn trigger_field(library: &[u8], plan: usize) -> u16
+    ensures { result ≡ u16_at library.now (entry_off library.now plan) }
+{
+    u16_at(library, entry_offset(library, plan) as usize)
+}
+
+#[tactic(auto, unfolding(crate::specs::Layout::plan_at))]
 pub fn trigger_kind(library: &[u8], plan: usize) -> u16
     ensures { result ≡ (plan_of library.now plan).kind }
 {
-    let off = entry_offset(library, plan) as usize;
-    let field = u16_at(library, off);
-    field % LEAST_FACTOR
+    trigger_field(library, plan) % LEAST_FACTOR
 }
 
 // Which variable's least value chooses a solution: v + 1 for Vv; 0 where the first is used.
+#[tactic(auto, unfolding(crate::specs::Layout::plan_at))]
 pub fn trigger_least(library: &[u8], plan: usize) -> u16
     ensures { result ≡ (plan_of library.now plan).least }
 {
-    let off = entry_offset(library, plan) as usize;
-    let field = u16_at(library, off);
-    field / LEAST_FACTOR
+    trigger_field(library, plan) / LEAST_FACTOR
 }
 
+#[tactic(auto, unfolding(crate::specs::Layout::plan_at))]
 pub fn trigger(library: &[u8], plan: usize) -> Literal
     ensures { result ≡ (plan_of library.now plan).trigger }
 {
-    let off = entry_offset(library, plan) as usize;
-    literal_at(library, off + 2)
+    literal_at(library, entry_offset(library, plan) as usize + 2)
 }
 
 // Where the plan's context stands, a situation.
@@ -86,37 +88,36 @@ pub fn context_offset(library: &[u8], plan: usize) -> usize
     ensures value { result ≡ context_off (entry_off library.now plan) }
     ensures small { result < 2 ^ 17 }
 {
-    let off = entry_offset(library, plan) as usize;
-    off + TRIGGER_BYTES
+    entry_offset(library, plan) as usize + TRIGGER_BYTES
 }
 
 // Where the plan's maintenance stands, a situation.
+#[tactic(auto, unfolding(crate::specs::Layout::maintenance_off))]
 pub fn maintenance_offset(library: &[u8], plan: usize) -> usize
     ensures value { result ≡ maintenance_off library.now (entry_off library.now plan) }
     ensures small { result < 2 ^ 37 }
 {
-    let context = context_offset(library, plan);
-    situation_end(library, context)
+    situation_end(library, context_offset(library, plan))
 }
 
-// ---- Success and failure lists
+// ---- Success and failure lists: each function one line, so that a parameter for the list would be no plainer
 
 // Where the plan's success list stands.
+#[tactic(auto, unfolding(crate::specs::Layout::success_off))]
 pub fn success_offset(library: &[u8], plan: usize) -> usize
     ensures value { result ≡ success_off library.now (entry_off library.now plan) }
     ensures small { result < 2 ^ 38 }
 {
-    let maintenance = maintenance_offset(library, plan);
-    situation_end(library, maintenance)
+    situation_end(library, maintenance_offset(library, plan))
 }
 
 // Where the plan's failure list stands.
+#[tactic(auto, unfolding(crate::specs::Layout::failure_off))]
 pub fn failure_offset(library: &[u8], plan: usize) -> usize
     ensures value { result ≡ failure_off library.now (entry_off library.now plan) }
     ensures small { result < 2 ^ 39 }
 {
-    let success = success_offset(library, plan);
-    actions_end(library, success)
+    actions_end(library, success_offset(library, plan))
 }
 
 // An action of the list at an offset.
@@ -134,40 +135,38 @@ fn action_of(bytes: &[u8], at: usize, place: usize) -> Action
 pub fn success_count(library: &[u8], plan: usize) -> u16
     ensures { result ≡ length (plan_of library.now plan).success }
 {
-    let at = success_offset(library, plan);
-    u16_at(library, at)
+    u16_at(library, success_offset(library, plan))
 }
 
+#[tactic(auto, unfolding(crate::specs::Layout::plan_at))]
 pub fn success_action(library: &[u8], plan: usize, place: usize) -> Action
     ensures { result ≡ get_or (plan_of library.now plan).success place no_action }
 {
-    let at = success_offset(library, plan);
-    action_of(library, at, place)
+    action_of(library, success_offset(library, plan), place)
 }
 
 pub fn failure_count(library: &[u8], plan: usize) -> u16
     ensures { result ≡ length (plan_of library.now plan).failure }
 {
-    let at = failure_offset(library, plan);
-    u16_at(library, at)
+    u16_at(library, failure_offset(library, plan))
 }
 
+#[tactic(auto, unfolding(crate::specs::Layout::plan_at))]
 pub fn failure_action(library: &[u8], plan: usize, place: usize) -> Action
     ensures { result ≡ get_or (plan_of library.now plan).failure place no_action }
 {
-    let at = failure_offset(library, plan);
-    action_of(library, at, place)
+    action_of(library, failure_offset(library, plan), place)
 }
 
 // ---- States and branches
 
 // Where the plan's states stand.
+#[tactic(auto, unfolding(crate::specs::Layout::states_off))]
 pub fn states_offset(library: &[u8], plan: usize) -> usize
     ensures value { result ≡ states_off library.now (entry_off library.now plan) }
     ensures small { result < 2 ^ 40 }
 {
-    let failure = failure_offset(library, plan);
-    actions_end(library, failure)
+    actions_end(library, failure_offset(library, plan))
 }
 
 // The number of branches of a state of the body at an offset.
@@ -203,20 +202,19 @@ fn branch_of(bytes: &[u8], at: usize, state: usize, place: usize) -> Branch
 pub fn state_count(library: &[u8], plan: usize) -> u16
     ensures { result ≡ length (plan_of library.now plan).states }
 {
-    let at = states_offset(library, plan);
-    u16_at(library, at)
+    u16_at(library, states_offset(library, plan))
 }
 
+#[tactic(auto, unfolding(crate::specs::Layout::plan_at))]
 pub fn branch_count(library: &[u8], plan: usize, state: usize) -> u16
     ensures { result ≡ length (get_or (plan_of library.now plan).states state []) }
 {
-    let at = states_offset(library, plan);
-    branches_of(library, at, state)
+    branches_of(library, states_offset(library, plan), state)
 }
 
+#[tactic(auto, unfolding(crate::specs::Layout::plan_at))]
 pub fn branch(library: &[u8], plan: usize, state: usize, place: usize) -> Branch
     ensures { result ≡ get_or (get_or (plan_of library.now plan).states state []) place no_branch }
 {
-    let at = states_offset(library, plan);
-    branch_of(library, at, state, place)
+    branch_of(library, states_offset(library, plan), state, place)
 }

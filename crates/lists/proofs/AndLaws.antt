@@ -2,7 +2,7 @@
 use mathlib.Core.Path.{◌≡◌, refl, ap, sym, ◌∙◌}
 use mathlib.Core.Bool.{Bool, true, false, ◌&&◌}
 use mathlib.Core.List.{List, [], ◌∷◌}
-use Rattle.lists.specs.Search.{all}
+use Rattle.std.specs.List.{list_all}
 
 pub and_first : (a b : Bool) → a ≡ false → (a && b) ≡ false
 and_first a b e = rw e
@@ -24,7 +24,6 @@ and_swap true false true d = refl
 and_swap true false false d = refl
 and_swap false b c d = refl
 
-pub all_both : {A : Type 0} (one two : A → Bool) (xs : List A) → all (λ x. one x && two x) xs ≡ (all one xs && all two xs)
-unfolding all
+pub all_both : {A : Type 0} (one two : A → Bool) (xs : List A) → list_all (λ x. one x && two x) xs ≡ (list_all one xs && list_all two xs)
 all_both one two [] = refl
-all_both one two (x ∷ xs) = ap (λ (b : Bool). (one x && two x) && b) (all_both one two xs) ∙ and_swap (one x) (two x) (all one xs) (all two xs)
+all_both one two (x ∷ xs) = ap (λ (b : Bool). (one x && two x) && b) (all_both one two xs) ∙ and_swap (one x) (two x) (list_all one xs) (list_all two xs)

@@ -2,10 +2,12 @@
 use Prim.Native.Nat.{ℕ, ◌+◌, ◌≤◌}
 use mathlib.Core.Path.{◌≡◌, refl, sym, ap, ◌∙◌}
 use mathlib.Core.List.{List, [], ◌∷◌, ◌++◌, map}
-use mathlib.Core.Bool.{Bool, true, false, ◌&&◌, not}
+use mathlib.Core.Bool.{Bool, true, false, cond, ◌&&◌, not}
 use native.Mathlib.Omega.{arith}
 use native.Mathlib.Nat.{zero-add}
 use lib.ListN.{length}
+use Rattle.std.specs.List.{count_by}
+use Rattle.std.proofs.lemmas.List.Recursion.{is_count_by}
 use Rattle.lists.specs.Counts.{bit, total, count, each}
 
 -- ---- Bits
@@ -85,3 +87,11 @@ module _ {A B : Type 0} where
   pub total_swap : (f : A → B → ℕ) (xs : List A) (ys : List B) → total (λ x. total (f x) ys) xs ≡ total (λ y. total (λ x. f x y) xs) ys
   total_swap f [] ys = sym (total_zero ys)
   total_swap f (x ∷ xs) ys = ap (λ n. total (f x) ys + n) (total_swap f xs ys) ∙ sym (total-add (f x) (λ y. total (λ x. f x y) xs) ys)
+
+-- std's count is the same number
+pub count_by_is : {A : Type 0} (test : A → Bool) (xs : List A) → count_by test xs ≡ count test xs
+count_by_is test xs = sym (is_count_by (count test) test refl (λ x ys. go (test x) (count test ys)) xs)
+  where
+    go : (b : Bool) (n : ℕ) → bit b + n ≡ cond b (1 + n) n
+    go true n = refl
+    go false n = zero-add n

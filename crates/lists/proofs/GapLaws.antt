@@ -7,6 +7,7 @@ use mathlib.Core.Path.{◌≡◌, ap, sym, ◌∙◌}
 use mathlib.Core.List.{List, [], ◌∷◌, ◌++◌, append_assoc, append-nil}
 use lib.ListN.{length, take, drop, set, get_or, get_or-append, length-append, length-take, length-drop, take-append-drop, drop_of_length-le}
 use lib.Seq.{take-suc, drop-cons, set_at, take_at, get_or-take, get_or-drop, get_or-append-add, take-take, drop-nil, take-nil, take_all, append_snoc}
+use Rattle.std.specs.List.{copy_within}
 use Rattle.lists.specs.Gap.{remove_at, close_gap}
 
 pub drop-take : {A : Type 0} (m n : ℕ) (xs : List A) → drop m (take n xs) ≡ take (n - m) (drop m xs)
@@ -117,3 +118,10 @@ module _ {A : Type 0} (xs : List A) (i n : ℕ) (d : A) (low : i ≤ n) (high : 
       let k : length (closed i n xs) + (j - n) ≡ j = omega (arith, length-closed xs i n low high) in
       let m : n + (j - n) ≡ j = omega arith in
       ap (λ (p : ℕ). get_or (closed i n xs ++ drop n xs) p d) (sym k) ∙ get_or-append-add (closed i n xs) (drop n xs) (j - n) d ∙ get_or-drop n xs (j - n) d ∙ ap (λ (p : ℕ). get_or xs p d) m
+
+-- the elements behind the gap, copied down over it, close it
+pub copied_down : {A : Type 0} (xs : List A) (i n : ℕ) → i < n → n ≤ length xs → copy_within xs (i + 1) n i ≡ close_gap i (n - 1) xs
+copied_down xs i n low high =
+    let e : n - (i + 1) ≡ n - 1 - i = omega arith in
+    let f : i + (n - 1 - i) ≡ n - 1 = omega arith in
+    rw (e, f, add-one i)

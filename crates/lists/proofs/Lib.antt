@@ -3,6 +3,7 @@ pub mod OptionLaws
 pub mod TestLaws
 pub mod AllLaws
 pub mod SearchLaws
+pub mod PositionLaws
 pub mod LoopLaws
 pub mod GapLaws
 pub mod MapLaws

@@ -9,7 +9,8 @@ use lib.ListN.{length, take, drop, get_or, length-take, drop_of_length-le}
 use lib.Seq.{drop-cons, get_or-take}
 use lib.Dec.{ltb}
 use borrow.Author.Tests.{lt-ltb}
-use Rattle.lists.specs.Search.{any, position}
+use Rattle.std.specs.List.{list_any}
+use Rattle.lists.specs.Search.{position}
 
 module _ {A : Type 0} (test : A → Bool) where
   -- a search that began at `from` has come to i: what it looks for is not before i
@@ -47,14 +48,14 @@ module _ {A : Type 0} (test : A → Bool) where
       go false h = omega arith
 
   -- some element passes just where there is such a place
-  pub any-position : (xs : List A) → any test xs ≡ ltb (position test xs) (length xs)
-  unfolding any position
+  pub any-position : (xs : List A) → list_any test xs ≡ ltb (position test xs) (length xs)
+  unfolding position
   any-position [] = refl
   any-position (x ∷ xs) = go (test x) (any-position xs)
     where
       suc-ltb : (m n : ℕ) → ltb (suc m) (suc n) ≡ ltb m n
       suc-ltb m n = lib.Dec.leb-suc-suc (suc m) n
 
-      go : (b : Bool) → any test xs ≡ ltb (position test xs) (length xs) → (b || any test xs) ≡ ltb (cond b 0 (suc (position test xs))) (suc (length xs))
+      go : (b : Bool) → list_any test xs ≡ ltb (position test xs) (length xs) → (b || list_any test xs) ≡ ltb (cond b 0 (suc (position test xs))) (suc (length xs))
       go true e = sym (lt-ltb 0 (suc (length xs)) (omega arith))
       go false e = e ∙ sym (suc-ltb (position test xs) (length xs))

@@ -1,21 +1,12 @@
--- Tests on the elements of a list, and the place of the first element that passes one.
-use Rattle.std.specs.Prelude.{ℕ, suc, Bool, true, false, cond, not, ◌&&◌, ◌||◌, List, [], ◌∷◌}
+-- Lists whose elements all differ, and the place of the first element that passes a test.
+use Rattle.std.specs.Prelude.{ℕ, suc, Bool, true, cond, not, ◌&&◌, List, [], ◌∷◌}
+use Rattle.std.specs.List.{list_any}
 
 module _ {A : Type 0} where
-  -- some element passes
-  unfoldable pub any : (A → Bool) → List A → Bool
-  any test [] = false
-  any test (x ∷ xs) = test x || any test xs
-
-  -- every element passes
-  unfoldable pub all : (A → Bool) → List A → Bool
-  all test [] = true
-  all test (x ∷ xs) = test x && all test xs
-
   -- no element equals a later one
   unfoldable pub distinct : (A → A → Bool) → List A → Bool
   distinct equal [] = true
-  distinct equal (x ∷ xs) = not (any (equal x) xs) && distinct equal xs
+  distinct equal (x ∷ xs) = not (list_any (equal x) xs) && distinct equal xs
 
   -- the place of the first element that passes; the length where none does
   unfoldable pub position : (A → Bool) → List A → ℕ

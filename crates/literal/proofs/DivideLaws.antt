@@ -1,12 +1,12 @@
--- What each way through the code of a divide answers; that it is exact, and that a plan which divides into its own input misses it.
-use Prim.Native.Nat.{ℕ, ◌+◌, ◌/◌, ◌%◌, ◌<◌, ◌≤◌}
+-- Laws of a divide: that it is exact, and that a plan which divides into its own input misses it.
+use Prim.Native.Nat.{ℕ, ◌+◌, ◌/◌, ◌%◌, ◌<◌}
 use native.Mathlib.Nat.{mod-lt, div-le_self, div-add-mod, mul_comm}
 use native.Mathlib.Omega.{arith}
 use mathlib.Core.Path.{◌≡◌, refl, ap, sym, ◌∙◌}
 use mathlib.Core.Bool.{Bool, true, false, not, ◌||◌}
-use mathlib.Core.Option.{none, some}
+use Rattle.std.specs.Prelude.{None, Some}
 use lib.Dec.{ltb, eqb}
-use borrow.Author.Tests.{lt-ltb, le-ltb, ne_eqb, eqb-true, eqb-false, ltb-true, not-true}
+use borrow.Author.Tests.{lt-ltb, le-ltb, eqb-true, eqb-false, ltb-true, not-true}
 use Rattle.lists.proofs.BoolLaws.{by_cases, both_ways, and_parts}
 use Rattle.lists.proofs.OptionLaws.{some_equal, none-some}
 use Rattle.literal.specs.declared.Literal.{Literal}
@@ -16,44 +16,10 @@ use Rattle.literal.specs.Environment.{value, replace, bind, is_env}
 use Rattle.literal.specs.Divide.{quotient_in, remainder_in, quotient_variable, remainder_variable, can_divide, divide, Divided, is_result, divides_into_input}
 use Rattle.literal.proofs.EnvLaws.{replace_same, replace_other, constant_variable, value-bind, env_value, bind_env}
 
--- ---- The code's ways
-
-module _ (l : Literal) (env : Env) where
-  cannot : can_divide l env ≡ false → none ≡ divide l env
-  unfolding divide
-  cannot e = rw e
-
-  pub head_fails : 64 ≤ l.head → none ≡ divide l env
-  unfolding can_divide
-  head_fails h = cannot (rw (le-ltb l.head 64 h))
-
-  module _ (head : l.head < 64) (n : ℕ) (p : n ≡ value env l.first) where
-    pub length_fails : 65528 ≤ n → none ≡ divide l env
-    unfolding can_divide
-    length_fails h = cannot (rw (lt-ltb l.head 64 head, ← p, le-ltb n 65528 h))
-
-    module _ (length : n < 65528) (d : ℕ) (q : d ≡ value env l.second) where
-      pub panel_fails : 65528 ≤ d → none ≡ divide l env
-      unfolding can_divide
-      panel_fails h = cannot (rw (lt-ltb l.head 64 head, ← p, lt-ltb n 65528 length, ← q, le-ltb d 65528 h))
-
-      pub zero_fails : d ≡ 0 → none ≡ divide l env
-      unfolding can_divide
-      zero_fails h = cannot (rw (lt-ltb l.head 64 head, ← p, lt-ltb n 65528 length, ← q, h))
-
-      module _ (panel : d < 65528) (not-zero : d ≡ 0 → ⊥) (quotient : ℕ) (w : quotient ≡ value env (quotient_variable l)) where
-        pub quotient_fails : quotient < 65528 → none ≡ divide l env
-        unfolding can_divide
-        quotient_fails h = cannot (rw (lt-ltb l.head 64 head, ← p, lt-ltb n 65528 length, ← q, lt-ltb d 65528 panel, ne_eqb d 0 not-zero, ← w, lt-ltb quotient 65528 h))
-
-        module _ (unbound : 65528 ≤ quotient) (remainder : ℕ) (r : remainder ≡ value env (remainder_variable l)) where
-          pub remainder_fails : remainder < 65528 → none ≡ divide l env
-          unfolding can_divide
-          remainder_fails h = cannot (rw (lt-ltb l.head 64 head, ← p, lt-ltb n 65528 length, ← q, lt-ltb d 65528 panel, ne_eqb d 0 not-zero, ← w, le-ltb quotient 65528 unbound, ← r, lt-ltb remainder 65528 h))
-
-          pub divided : 65528 ≤ remainder → some (bind remainder (n % d) (bind quotient (n / d) env)) ≡ divide l env
-          unfolding divide can_divide
-          divided h = rw (lt-ltb l.head 64 head, ← p, lt-ltb n 65528 length, ← q, lt-ltb d 65528 panel, ne_eqb d 0 not-zero, ← w, le-ltb quotient 65528 unbound, ← r, le-ltb remainder 65528 h)
+-- where the test fails there is none
+cannot : (l : Literal) (env : Env) → can_divide l env ≡ false → divide l env ≡ None
+unfolding divide
+cannot l env e = rw e
 
 -- ---- What holds of it
 
@@ -93,7 +59,7 @@ module _ (l : Literal) (env : Env) (d : Divides l env) where
       let k = value env l.second in
       lt-ltb (n % k) 65528 (omega (arith, ltb-true k 65528 d.panel, mod-lt n d.some-panel))
 
-module _ (l : Literal) (env next : Env) (e : divide l env ≡ some next) where
+module _ (l : Literal) (env next : Env) (e : divide l env ≡ Some next) where
   -- the test passed, and this is the environment after it
   done : Divides l env × (next ≡ bind (value env (remainder_variable l)) (value env l.first % value env l.second)
       (bind (value env (quotient_variable l)) (value env l.first / value env l.second) env))
@@ -157,8 +123,8 @@ either true b e f g = f refl
 either false b e f g = g e
 
 -- a plan that divides into its own input always misses
-pub own_input_missed : (l : Literal) (env : Env) → divides_into_input l ≡ true → divide l env ≡ none
-own_input_missed l env h = by_cases (can_divide l env) (λ c. clash (divides l env c)) (λ c. sym (cannot l env c))
+pub own_input_missed : (l : Literal) (env : Env) → divides_into_input l ≡ true → divide l env ≡ None
+own_input_missed l env h = by_cases (can_divide l env) (λ c. clash (divides l env c)) (cannot l env)
   where
     -- a length that is bound is the variable of no result
     bound : Divides l env → (term : ℕ) → is_constant (value env term) ≡ true → {P : Type 0} → is_result l term ≡ true → P
@@ -166,5 +132,5 @@ own_input_missed l env h = by_cases (can_divide l env) (λ c. clash (divides l e
         (λ p. both_ways (rw (eqb-true term (quotient_variable l) p) at k) d.quotient)
         (λ p. both_ways (rw (eqb-true term (remainder_variable l) p) at k) d.remainder)
 
-    clash : Divides l env → divide l env ≡ none
+    clash : Divides l env → divide l env ≡ None
     clash d = either (is_result l l.first) (is_result l l.second) h (bound d l.first d.length) (bound d l.second d.panel)

@@ -1,6 +1,4 @@
 pub mod LiteralLaws
-pub mod WordLaws
-pub mod MatchSteps
 pub mod EnvLaws
 pub mod EntryLaws
 pub mod MatchLaws

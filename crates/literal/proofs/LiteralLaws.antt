@@ -1,4 +1,4 @@
--- Laws of literals: the last test of each chain of tests, and that the same literals are equal.
+-- Laws of literals: the same literals are equal, and what their opposites are.
 use Prim.Native.Nat.{ℕ, ◌+◌, ◌-◌, ◌%◌, ◌<◌}
 use native.Mathlib.Omega.{arith}
 use mathlib.Core.Path.{◌≡◌, refl, ap, sym, ◌∙◌}
@@ -7,11 +7,7 @@ use lib.Dec.{ltb, eqb}
 use borrow.Author.Tests.{lt-ltb, le-ltb, ltb-true, ltb-false, eq-eqb, ne_eqb, eqb-true}
 use Rattle.lists.proofs.BoolLaws.{by_cases, both_ways, and_parts}
 use Rattle.literal.specs.declared.Literal.{Literal}
-use Rattle.literal.specs.Literal.{first_variable, is_ground, same, negative, opposite_head, opposite}
-
-pub ground_third : (l : Literal) → l.first < first_variable → l.second < first_variable → ltb l.third first_variable ≡ is_ground l
-unfolding is_ground
-ground_third l p q = rw (lt-ltb _ _ p, lt-ltb _ _ q)
+use Rattle.literal.specs.Literal.{is_ground, same, negative, opposite_head, opposite}
 
 module _ (l m : Literal) where
   pub same_equal : same l m ≡ true → l ≡ m

@@ -2,7 +2,7 @@
 use Prim.Native.Nat.{ℕ}
 use mathlib.Core.Path.{◌≡◌, refl, ap, sym, subst, ◌∙◌}
 use mathlib.Core.Bool.{Bool, true, false, cond, ◌&&◌}
-use mathlib.Core.Option.{Option, none, some}
+use Rattle.std.specs.Prelude.{Option, None, Some}
 use lib.Dec.{eqb}
 use borrow.Author.Tests.{eqb-true}
 use Rattle.lists.proofs.BoolLaws.{by_cases}
@@ -21,7 +21,7 @@ pub data TermMatch (env : Env) (term constant : ℕ) : Env → Type 0 where
   agrees : is_constant (value env term) ≡ true → value env term ≡ constant → TermMatch env term constant env
   binds : is_constant (value env term) ≡ false → TermMatch env term constant (bind (value env term) constant env)
 
-pub term_match : (env : Env) (term constant : ℕ) (next : Env) → match_term term constant env ≡ some next → TermMatch env term constant next
+pub term_match : (env : Env) (term constant : ℕ) (next : Env) → match_term term constant env ≡ Some next → TermMatch env term constant next
 unfolding match_term
 term_match env term constant next e = by_cases (is_constant (value env term))
     (λ k. by_cases (eqb (value env term) constant)
@@ -77,11 +77,11 @@ pub record LiteralMatch (l ground : Literal) (env next : Env) : Type 0 where
   pub second : TermMatch one l.second ground.second two
   pub third : TermMatch two l.third ground.third next
 
-then_some : (o : Option Env) (f : Env → Option Env) (next : Env) → and_then o f ≡ some next → (env : Env) × (o ≡ some env) × (f env ≡ some next)
-then_some none f next e = none-some e
-then_some (some env) f next e = (env, refl, e)
+then_some : (o : Option Env) (f : Env → Option Env) (next : Env) → and_then o f ≡ Some next → (env : Env) × (o ≡ Some env) × (f env ≡ Some next)
+then_some None f next e = none-some e
+then_some (Some env) f next e = (env, refl, e)
 
-pub literal_match : (l ground : Literal) (env next : Env) → match_literal l ground env ≡ some next → LiteralMatch l ground env next
+pub literal_match : (l ground : Literal) (env next : Env) → match_literal l ground env ≡ Some next → LiteralMatch l ground env next
 unfolding match_literal
 literal_match l ground env next e = by_cases (eqb l.head ground.head)
     (λ h.
@@ -97,7 +97,7 @@ literal_match l ground env next e = by_cases (eqb l.head ground.head)
     })
     (λ h. none-some (rw h at e))
 
-module _ (l ground : Literal) (env next : Env) (e : match_literal l ground env ≡ some next) where
+module _ (l ground : Literal) (env next : Env) (e : match_literal l ground env ≡ Some next) where
   m : LiteralMatch l ground env next
   m = literal_match l ground env next e
 
@@ -153,7 +153,7 @@ module _ (l ground : Literal) (env next : Env) (e : match_literal l ground env �
 
 module _ (env : Env) where
   when : Bool → Option Env
-  when b = cond b (some env) none
+  when b = cond b (Some env) None
 
   bound_term : (term constant : ℕ) → is_constant (value env term) ≡ true → match_term term constant env ≡ when (eqb (value env term) constant)
   unfolding match_term when
@@ -166,7 +166,7 @@ module _ (env : Env) where
   followed false c next e = refl
 
   -- such a literal matches only its own instance, and binds nothing
-  pub ground_match : (l ground : Literal) → is_ground (instantiate env l) ≡ true → match_literal l ground env ≡ cond (same (instantiate env l) ground) (some env) none
+  pub ground_match : (l ground : Literal) → is_ground (instantiate env l) ≡ true → match_literal l ground env ≡ cond (same (instantiate env l) ground) (Some env) None
   unfolding match_literal instantiate same when
   ground_match l ground h =
       let g = ground_terms (instantiate env l) h in
@@ -180,19 +180,19 @@ module _ (env : Env) where
       ∙ followed (eqb (value env l.first) ground.first) _ (λ one. and_then (match_term l.second ground.second one) (λ two. match_term l.third ground.third two)) second in
       heads (eqb l.head ground.head) _ _ first
     where
-      heads : (b c : Bool) (o : Option Env) → o ≡ cond c (some env) none → cond b o none ≡ cond (b && c) (some env) none
+      heads : (b c : Bool) (o : Option Env) → o ≡ cond c (Some env) None → cond b o None ≡ cond (b && c) (Some env) None
       heads true c o e = e
       heads false c o e = refl
 
 -- a ground literal matches only itself
-pub ground_only : (env : Env) (l ground : Literal) → is_ground l ≡ true → match_literal l ground env ≡ cond (same l ground) (some env) none
+pub ground_only : (env : Env) (l ground : Literal) → is_ground l ≡ true → match_literal l ground env ≡ cond (same l ground) (Some env) None
 ground_only env l ground h =
     let e = ground_itself env l h in
-    ground_match env l ground (ap is_ground e ∙ h) ∙ ap (λ (x : Literal). cond (same x ground) (some env) none) e
+    ground_match env l ground (ap is_ground e ∙ h) ∙ ap (λ (x : Literal). cond (same x ground) (Some env) None) e
 
 -- after a match, matching the literal again is equality with what it matched
-pub match_again : (l ground : Literal) (env next : Env) → match_literal l ground env ≡ some next → is_ground ground ≡ true
-    → (other : Literal) → match_literal l other next ≡ cond (same ground other) (some next) none
+pub match_again : (l ground : Literal) (env next : Env) → match_literal l ground env ≡ Some next → is_ground ground ≡ true
+    → (other : Literal) → match_literal l other next ≡ cond (same ground other) (Some next) None
 match_again l ground env next e g other =
     let p = match_equal l ground env next e g in
-    ground_match next l other (ap is_ground p ∙ g) ∙ ap (λ (x : Literal). cond (same x other) (some next) none) p
+    ground_match next l other (ap is_ground p ∙ g) ∙ ap (λ (x : Literal). cond (same x other) (Some next) None) p

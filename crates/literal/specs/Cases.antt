@@ -1,6 +1,5 @@
 -- Cases of request 11: what a divide binds, and where it is missed.
-use Rattle.std.specs.Prelude.{ℕ, ◌+◌, ◌*◌, List, [], ◌∷◌}
-use Rattle.std.proofs.Math.Option.{Option, none, some}
+use Rattle.std.specs.Prelude.{ℕ, ◌+◌, ◌*◌, List, [], ◌∷◌, Option, None, Some}
 use Rattle.literal.specs.declared.Literal.{Literal}
 use Rattle.literal.specs.declared.Env.{Env}
 
@@ -25,21 +24,21 @@ pub record DivideCase : Type 0 where
 abbrev pub divide_cases : List DivideCase
 divide_cases =
     -- V2 by V3 into V0 and V1: 17 = 3 × 5 + 2, 15 = 3 × 5 + 0, 4 = 0 × 5 + 4
-    record { literal = into 0 1 65530 65531; before = lengths_are 17 5; after = some (values_are 3 2 17 5) }
-    ∷ record { literal = into 0 1 65530 65531; before = lengths_are 15 5; after = some (values_are 3 0 15 5) }
-    ∷ record { literal = into 0 1 65530 65531; before = lengths_are 4 5; after = some (values_are 0 4 4 5) }
+    record { literal = into 0 1 65530 65531; before = lengths_are 17 5; after = Some (values_are 3 2 17 5) }
+    ∷ record { literal = into 0 1 65530 65531; before = lengths_are 15 5; after = Some (values_are 3 0 15 5) }
+    ∷ record { literal = into 0 1 65530 65531; before = lengths_are 4 5; after = Some (values_are 0 4 4 5) }
     -- into V1 and V0; constants; the greatest one
-    ∷ record { literal = into 1 0 65530 65531; before = lengths_are 17 5; after = some (values_are 2 3 17 5) }
-    ∷ record { literal = into 0 1 17 5; before = lengths_are 1 1; after = some (values_are 3 2 1 1) }
-    ∷ record { literal = into 0 1 65527 1; before = lengths_are 1 1; after = some (values_are 65527 0 1 1) }
+    ∷ record { literal = into 1 0 65530 65531; before = lengths_are 17 5; after = Some (values_are 2 3 17 5) }
+    ∷ record { literal = into 0 1 17 5; before = lengths_are 1 1; after = Some (values_are 3 2 1 1) }
+    ∷ record { literal = into 0 1 65527 1; before = lengths_are 1 1; after = Some (values_are 65527 0 1 1) }
     -- missed: the length V4 unbound, the panel V4 unbound, the panel 0, V0 bound, V1 bound
-    ∷ record { literal = into 0 1 65532 65531; before = lengths_are 17 5; after = none }
-    ∷ record { literal = into 0 1 65530 65532; before = lengths_are 17 5; after = none }
-    ∷ record { literal = into 0 1 65530 65531; before = lengths_are 17 0; after = none }
-    ∷ record { literal = into 0 1 65530 65531; before = values_are 3 65529 17 5; after = none }
-    ∷ record { literal = into 0 1 65530 65531; before = values_are 65528 2 17 5; after = none }
+    ∷ record { literal = into 0 1 65532 65531; before = lengths_are 17 5; after = None }
+    ∷ record { literal = into 0 1 65530 65532; before = lengths_are 17 5; after = None }
+    ∷ record { literal = into 0 1 65530 65531; before = lengths_are 17 0; after = None }
+    ∷ record { literal = into 0 1 65530 65531; before = values_are 3 65529 17 5; after = None }
+    ∷ record { literal = into 0 1 65530 65531; before = values_are 65528 2 17 5; after = None }
     -- missed: into the length itself, unbound or bound; into the panel itself
-    ∷ record { literal = into 0 1 65528 5; before = lengths_are 1 1; after = none }
-    ∷ record { literal = into 0 1 65528 5; before = values_are 17 65529 1 1; after = none }
-    ∷ record { literal = into 0 1 17 65529; before = lengths_are 1 1; after = none }
+    ∷ record { literal = into 0 1 65528 5; before = lengths_are 1 1; after = None }
+    ∷ record { literal = into 0 1 65528 5; before = values_are 17 65529 1 1; after = None }
+    ∷ record { literal = into 0 1 17 65529; before = lengths_are 1 1; after = None }
     ∷ []

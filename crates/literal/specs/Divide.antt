@@ -1,6 +1,5 @@
 -- Dividing a length by another into two variables (document 02, request 11). dMARS has no such branch.
-use Rattle.std.specs.Prelude.{ℕ, ◌+◌, ◌*◌, ◌/◌, ◌%◌, ◌<◌, ◌≡◌, Bool, cond, not, ◌&&◌, ◌||◌, ltb, eqb}
-use Rattle.std.proofs.Math.Option.{Option, none, some}
+use Rattle.std.specs.Prelude.{ℕ, ◌+◌, ◌*◌, ◌/◌, ◌%◌, ◌<◌, ◌≡◌, Bool, cond, not, ◌&&◌, ◌||◌, ltb, eqb, Option, None, Some}
 use Rattle.literal.specs.declared.Literal.{Literal}
 use Rattle.literal.specs.declared.Env.{Env}
 use Rattle.literal.specs.Literal.{first_variable, is_constant}
@@ -41,8 +40,8 @@ divide l env =
     let length = value env l.first in
     let panel = value env l.second in
     cond (can_divide l env)
-    (some (bind (value env (remainder_variable l)) (length % panel) (bind (value env (quotient_variable l)) (length / panel) env)))
-    none
+    (Some (bind (value env (remainder_variable l)) (length % panel) (bind (value env (quotient_variable l)) (length / panel) env)))
+    None
 
 -- ---- What holds of it
 

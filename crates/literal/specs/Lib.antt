@@ -1,5 +1,4 @@
 pub mod Literal
-pub mod Word
 pub mod Environment
 pub mod Match
 pub mod Divide

@@ -1,12 +1,10 @@
 // Terms, literals and environments, and matching a literal against a ground one.
 #![tactic(auto)]
 
-ghost use Rattle.std.specs.Prelude.{◌≡◌, ◌||◌, eqb};
-ghost use Rattle.std.proofs.Math.Option.{none};
+ghost use Rattle.std.specs.Prelude.{◌≡◌, ◌||◌, eqb, cond, Some, None};
 ghost use Rattle.literal.specs.Literal.{is_constant, is_ground, same, opposite};
-ghost use Rattle.literal.specs.Word.{word};
 ghost use Rattle.literal.specs.Environment.{value, instantiate, empty_env, is_env, replace, bind};
-ghost use Rattle.literal.specs.Match.{match_term, match_literal, answer};
+ghost use Rattle.literal.specs.Match.{match_term, match_literal};
 ghost use Rattle.literal.specs.Divide.{divide};
 
 // Terms from this number on are the variables V0 to V7, and lower ones are constants.
@@ -23,11 +21,8 @@ pub const VARIABLE_PAIRS: u16 = 64;
 // What a negative literal's head has above its predicate.
 pub const NEGATIVE: u16 = 32768;
 
-// How many numbers of 16 bits there are.
-const NUMBERS: u64 = 65536;
-
 // A literal as it is stored: the predicate with its sign, and three terms, 0 where unused.
-#[derive(Clone, Copy)]
+#[derive(Clone, Copy, PartialEq, Eq)]
 pub struct Literal {
     pub head: u16,
     pub first: u16,
@@ -35,62 +30,37 @@ pub struct Literal {
     pub third: u16,
 }
 
-// What each variable stands for: its constant, or itself while it is unbound.
-#[derive(Clone, Copy)]
+// What each variable stands for: its constant, or itself while it is unbound. Numbers and no Options, as an image stores them.
+#[derive(Clone, Copy, PartialEq, Eq)]
 pub struct Env {
-    pub terms: [u16; 8],
+    pub terms: [u16; VARIABLES],
 }
 
-// Whether a literal matched, and the environment after it: the one given where it did not.
-#[derive(Clone, Copy)]
-pub struct Match {
-    pub found: bool,
-    pub env: Env,
-}
-
+#[tactic(auto, unfolding(crate::specs::Literal::is_ground))]
 pub fn is_ground(l: Literal) -> bool
     ensures { result ≡ is_ground l }
 {
-    if FIRST_VARIABLE <= l.first {
-        return false;
-    }
-    if FIRST_VARIABLE <= l.second {
-        return false;
-    }
-    l.third < FIRST_VARIABLE
+    l.first < FIRST_VARIABLE && l.second < FIRST_VARIABLE && l.third < FIRST_VARIABLE
 }
 
-// The literal's eight bytes as one number: the head lowest, then its terms in order.
-fn word_of(l: Literal) -> u64
-    ensures { result ≡ word l }
-{
-    ((l.third as u64 * NUMBERS + l.second as u64) * NUMBERS + l.first as u64) * NUMBERS
-        + l.head as u64
-}
-
-// Two literals are the same where their words are equal: one comparison.
+#[tactic(auto, unfolding(crate::specs::Literal::same))]
 pub fn is_same(l: Literal, m: Literal) -> bool
     ensures { result ≡ same l m }
 {
-    let word = word_of(l);
-    let other = word_of(m);
-    word == other
+    l == m
 }
 
 // The literal with the other sign.
+#[tactic(auto, unfolding(crate::specs::Literal::opposite))]
 pub fn opposite_of(l: Literal) -> Literal
     ensures { result ≡ opposite l }
 {
-    if l.head < NEGATIVE {
-        return Literal {
-            head: l.head + NEGATIVE,
-            ..l
-        };
-    }
-    Literal {
-        head: l.head - NEGATIVE,
-        ..l
-    }
+    let head = if l.head < NEGATIVE {
+        l.head + NEGATIVE
+    } else {
+        l.head - NEGATIVE
+    };
+    Literal { head, ..l }
 }
 
 pub fn empty_env() -> Env
@@ -105,29 +75,24 @@ pub fn empty_env() -> Env
 fn is_entry(variable: u16, term: u16) -> bool
     ensures { result ≡ (is_constant term || eqb term variable) }
 {
-    if FIRST_VARIABLE <= term {
-        return term == variable;
-    }
-    true
+    term < FIRST_VARIABLE || term == variable
 }
 
 // Whether each variable stands for a constant or, while it is unbound, for itself.
 pub fn is_env(env: Env) -> bool
     ensures { result ≡ is_env env }
 {
-    let mut i: usize = 0;
-    while i < VARIABLES {
-        let term = env.terms[i];
+    for (i, term) in env.terms.iter().enumerate() {
         let variable = FIRST_VARIABLE + i as u16;
-        if !is_entry(variable, term) {
+        if !is_entry(variable, *term) {
             return false;
         }
-        i += 1;
     }
     true
 }
 
 // What a term stands for.
+#[tactic(auto, unfolding(crate::specs::Environment::value))]
 pub fn value_of(env: Env, term: u16) -> u16
     ensures { result ≡ value env term }
 {
@@ -139,124 +104,85 @@ pub fn value_of(env: Env, term: u16) -> u16
 }
 
 // The literal with its bound variables replaced by their constants.
+#[tactic(auto, unfolding(crate::specs::Environment::instantiate))]
 pub fn instantiated(env: Env, l: Literal) -> Literal
     ensures { result ≡ instantiate env l }
 {
-    let first = value_of(env, l.first);
-    let second = value_of(env, l.second);
-    let third = value_of(env, l.third);
     Literal {
         head: l.head,
-        first: first,
-        second: second,
-        third: third,
+        first: value_of(env, l.first),
+        second: value_of(env, l.second),
+        third: value_of(env, l.third),
     }
-}
-
-fn replaced(variable: u16, constant: u16, term: u16) -> u16
-    ensures { result ≡ replace variable constant term }
-{
-    if term == variable {
-        return constant;
-    }
-    term
 }
 
 // The environment in which all that stood for the variable stands for the constant.
-fn bound(variable: u16, constant: u16, env: Env) -> Env
+fn bound(variable: u16, constant: u16, mut env: Env) -> Env
     ensures { result ≡ bind variable constant env }
 {
-    let mut terms = env.terms;
-    let mut i: usize = 0;
-    while i < VARIABLES {
-        let term = terms[i];
-        terms[i] = replaced(variable, constant, term);
-        i += 1;
+    for term in env.terms.iter_mut() {
+        if *term == variable {
+            *term = constant;
+        }
     }
-    Env { terms: terms }
+    env
 }
 
-fn match_term(term: u16, constant: u16, env: Env) -> Match
-    ensures { result ≡ answer env (match_term term constant env) }
+#[tactic(auto, unfolding(crate::specs::Match::match_term))]
+fn match_term(term: u16, constant: u16, env: Env) -> Option<Env>
+    ensures { result ≡ match_term term constant env }
 {
     let now = value_of(env, term);
     if now < FIRST_VARIABLE {
-        return Match {
-            found: now == constant,
-            env: env,
-        };
+        return (now == constant).then_some(env);
     }
-    let next = bound(now, constant, env);
-    Match {
-        found: true,
-        env: next,
-    }
-}
-
-// No match leaves the environment as it was.
-fn no_match(env: Env) -> Match
-    ensures { result ≡ answer env none }
-{
-    Match {
-        found: false,
-        env: env,
-    }
+    Some(bound(now, constant, env))
 }
 
 // The literal against a ground one, from an environment.
-pub fn match_literal(l: Literal, known: Literal, env: Env) -> Match
-    ensures { result ≡ answer env (match_literal l known env) }
+#[tactic(auto, unfolding(crate::specs::Match::match_literal))]
+pub fn match_literal(l: Literal, known: Literal, env: Env) -> Option<Env>
+    ensures { result ≡ match_literal l known env }
 {
     if l.head != known.head {
-        return no_match(env);
+        return None;
     }
-    let one = match_term(l.first, known.first, env);
-    if !one.found {
-        return no_match(env);
-    }
-    let after_one = one.env;
-    let two = match_term(l.second, known.second, after_one);
-    if !two.found {
-        return no_match(env);
-    }
-    let after_two = two.env;
-    let three = match_term(l.third, known.third, after_two);
-    if three.found {
-        return three;
-    }
-    no_match(env)
+    let after_one = match_term(l.first, known.first, env)?;
+    let after_two = match_term(l.second, known.second, after_one)?;
+    match_term(l.third, known.third, after_two)
+}
+
+// The constant that a term stands for.
+fn constant_of(env: Env, term: u16) -> Option<u16>
+    ensures { result ≡ cond (is_constant (value env term)) (Some (value env term)) None }
+{
+    let now = value_of(env, term);
+    (now < FIRST_VARIABLE).then_some(now)
+}
+
+// The variable that a term stands for.
+fn variable_of(env: Env, term: u16) -> Option<u16>
+    ensures { result ≡ cond (is_constant (value env term)) None (Some (value env term)) }
+{
+    let now = value_of(env, term);
+    (FIRST_VARIABLE <= now).then_some(now)
 }
 
 // The first term divided by the second: the quotient and the remainder are bound to the two variables that the head names.
-pub fn divide(l: Literal, env: Env) -> Match
-    ensures { result ≡ answer env (divide l env) }
+#[tactic(auto, unfolding(crate::specs::Divide::divide, crate::specs::Divide::can_divide))]
+pub fn divide(l: Literal, env: Env) -> Option<Env>
+    ensures { result ≡ divide l env }
 {
     if VARIABLE_PAIRS <= l.head {
-        return no_match(env);
+        return None;
     }
-    let length = value_of(env, l.first);
-    if FIRST_VARIABLE <= length {
-        return no_match(env);
-    }
-    let panel = value_of(env, l.second);
-    if FIRST_VARIABLE <= panel {
-        return no_match(env);
-    }
+    let length = constant_of(env, l.first)?;
+    let panel = constant_of(env, l.second)?;
     if panel == 0 {
-        return no_match(env);
+        return None;
     }
-    let quotient = value_of(env, FIRST_VARIABLE + l.head % REMAINDER_FACTOR);
-    if quotient < FIRST_VARIABLE {
-        return no_match(env);
-    }
-    let remainder = value_of(env, FIRST_VARIABLE + l.head / REMAINDER_FACTOR);
-    if remainder < FIRST_VARIABLE {
-        return no_match(env);
-    }
+    let quotient = variable_of(env, FIRST_VARIABLE + l.head % REMAINDER_FACTOR)?;
+    let remainder = variable_of(env, FIRST_VARIABLE + l.head / REMAINDER_FACTOR)?;
     let once = bound(quotient, length / panel, env);
-    let both = bound(remainder, length % panel, once);
-    Match {
-        found: true,
-        env: both,
-    }
+    Some(bound(remainder, length % panel, once))
 }

@@ -1,6 +1,8 @@
 -- What load gives (document 01, "The agent holds its own copy of the library", "Who may cause which refusal";
 -- dMARS 8.1, InitdMARSAgentState).
-use Rattle.std.specs.Prelude.{ℕ, ◌≤◌, ◌≡◌, Bool, true, List, length, take, replicate}
+use Rattle.std.specs.Prelude.{ℕ, ◌≤◌, ◌≡◌, Bool, true, List, length, take, replicate, Result, MatchResult}
+use Rattle.refusals.specs.declared.Refusal.{Refusal}
+use Rattle.refusals.specs.Numbers.{number_of}
 use Rattle.literal.specs.declared.Literal.{Literal}
 use Rattle.literal.specs.Environment.{empty_env}
 use Rattle.belief.specs.declared.Beliefs.{Beliefs}
@@ -17,7 +19,6 @@ use Rattle.state.specs.declared.State.{State}
 use Rattle.state.specs.View.{most_below, view_state, counts_fit}
 use Rattle.formed.specs.Formed.{is_well_formed_with}
 use Rattle.load.specs.declared.Agent.{Agent}
-use Rattle.load.specs.declared.Loaded.{Loaded}
 
 -- the agent's library: the bytes of its copy that are in use
 abbrev pub bytes_of : Agent → List ℕ
@@ -33,7 +34,7 @@ pub record Holds (beliefs : List Literal) (table : Beliefs) : Type 0 where
   pub few : table.count ≤ most_beliefs
   pub means : view table ≡ beliefs
 
--- ---- An agent with nothing in it
+-- ---- A state with nothing in it
 
 -- a table without beliefs
 abbrev pub no_beliefs : Beliefs
@@ -59,25 +60,19 @@ starts_with beliefs =
       made = 0;
     }
 
--- an agent without a library
-abbrev pub without_library : State → Agent
-without_library s = record { library = replicate most_bytes 0; length = 0; state = s }
-
--- what stands beside a refusal's number: no library and no beliefs, every place as given here
-unfoldable pub no_agent : Agent
-no_agent = without_library (starts_with no_beliefs)
-
 -- ---- Load
 
--- the refusal's number, 0 where there is none; then the agent has its own copy of the library, and the initial beliefs alone.
--- Where it is refused no agent is made
-pub record Loads (bytes : List ℕ) (r : Loaded) : Type 0 where
-  pub number : r.refusal ≡ refusal_of bytes
-  pub copy : refusal_of bytes ≡ 0 → bytes_of r.agent ≡ bytes
-  pub state : refusal_of bytes ≡ 0 → view_state r.agent.state ≡ loaded (library_of bytes)
-  pub table : refusal_of bytes ≡ 0 → Holds (beliefs_of bytes) r.agent.state.beliefs
-  pub none : (refusal_of bytes ≡ 0 → ⊥) → r.agent ≡ no_agent
+-- the agent of an accepted library has its own copy of it, and the initial beliefs alone
+pub record Loaded (bytes : List ℕ) (a : Agent) : Type 0 where
+  pub accepted : refusal_of bytes ≡ 0
+  pub copy : bytes_of a ≡ bytes
+  pub state : view_state a.state ≡ loaded (library_of bytes)
+  pub table : Holds (beliefs_of bytes) a.state.beliefs
   -- every count is within its array, and the library's array has its length
-  pub fit : counts_fit r.agent.state ≡ true
-  pub within : r.agent.length ≤ most_bytes
-  pub places : length r.agent.library ≡ most_bytes
+  pub fit : counts_fit a.state ≡ true
+  pub within : a.length ≤ most_bytes
+  pub places : length a.library ≡ most_bytes
+
+-- the agent, or the refusal of a library that is not accepted; then there is no agent
+abbrev pub Loads : List ℕ → Result Agent Refusal → Type 0
+Loads bytes r = MatchResult r (Loaded bytes) (λ e. number_of e ≡ refusal_of bytes)

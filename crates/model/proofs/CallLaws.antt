@@ -4,7 +4,7 @@ use mathlib.Core.Path.{◌≡◌, refl, sym, ap, subst}
 use mathlib.Core.List.{List}
 use mathlib.Core.Bool.{true}
 use native.Mathlib.Omega.{arith}
-use Rattle.lists.specs.Search.{any}
+use Rattle.std.specs.List.{list_any}
 use Rattle.library.specs.Plan.{Library}
 use Rattle.model.specs.declared.Event.{Event}
 use Rattle.model.specs.declared.Answer.{Answer}
@@ -45,7 +45,7 @@ loaded_well_formed library r = formed_test library (loaded library) (loaded_form
 
 step-refusal : {library : Library} {n m n' m' : ℕ} {c : Call} {q q' : List Event} {ks ks' : List Intention} {a : Answer}
     → Step library n m c q ks a n' m' q' ks' → is_refusal_for c (refusal_in a) ≡ true
-unfolding is_refusal_for refusal_in any
+unfolding is_refusal_for refusal_in
 step-refusal Step.idle = refl
 step-refusal (Step.refused number e) = e
 step-refusal (Step.taken kind l x g f h) = refl

@@ -7,7 +7,7 @@ use native.Mathlib.Omega.{arith}
 use lib.Dec.{eqb}
 use lib.ListN.{length, length-map}
 use borrow.Author.Tests.{eq-eqb, eqb-true}
-use Rattle.lists.specs.Search.{any}
+use Rattle.std.specs.List.{list_any}
 use Rattle.lists.specs.Counts.{bit, count, Every}
 use Rattle.lists.proofs.BoolLaws.{by_cases, both_ways, and_both}
 use Rattle.lists.proofs.CountLaws.{bit_left, bit_right, bit_le_one, total-length, total_same, total_le, count_less}
@@ -39,7 +39,7 @@ record Reached (library : Library) (h : History) (s : AgentState) : Type 0 where
 
 -- no call on a well-formed state is refused with 10
 not_ten : (c : Call) (number : ℕ) → is_refusal_for c number ≡ true → not (eqb number 10) ≡ true
-unfolding is_refusal_for any
+unfolding is_refusal_for
 not_ten c number e = by_cases (eqb number 10)
     (λ t. both_ways e (subst (λ k. is_refusal_for c k ≡ false) (sym (eqb-true number 10 t)) (ten c)))
     (λ f. ap not f)
@@ -117,7 +117,7 @@ module _ {library : Library} {h : History} {s : AgentState} (k : Reached library
   pending_or_served (e ∷ part) = omega (
     arith,
     pending_or_served part,
-    ap (λ b. bit (not b)) (by_cases (any (serves e.origin) J)
+    ap (λ b. bit (not b)) (by_cases (list_any (serves e.origin) J)
         (λ t. ap (λ b. not b || eqb (count (serves e.origin) J) 1) t ∙ eq-eqb (count (serves e.origin) J) 1 (omega (arith, served_once e.origin, any_some (serves e.origin) J t)))
         (λ f. ap (λ b. not b || eqb (count (serves e.origin) J) 1) f)),
   )
@@ -126,7 +126,7 @@ module _ {library : Library} {h : History} {s : AgentState} (k : Reached library
   same_itself m = and_both (eqb m.id m.id) _ (eqb_same m.id) (and_both (eqb m.plan m.plan) (same_origin m.event m.event) (eqb_same m.plan) (origin_same m.event))
 
   own_made : (part : List Job) → ((p : Making → Bool) → count (λ j. p (making_of j)) part ≤ count p h.made)
-      → Every (λ j. any (same_making (making_of j)) h.made) part
+      → Every (λ j. list_any (same_making (making_of j)) h.made) part
   own_made [] known = refl
   own_made (j ∷ part) known = omega (
     arith,
@@ -134,14 +134,14 @@ module _ {library : Library} {h : History} {s : AgentState} (k : Reached library
     ap (λ b. bit (not b)) (some-any (same_making (making_of j)) h.made (omega (arith, known (same_making (making_of j)), ap bit (same_itself (making_of j))))),
   )
 
-  served_queued : Every (λ j. any (is_of j.event) s.queue) J
+  served_queued : Every (λ j. list_any (is_of j.event) s.queue) J
   unfolding is_served
-  served_queued = count_less (λ j. not (any (is_of j.event) s.queue)) (λ j. not (any (is_served library j) s.queue)) J k.formed.linked.served (λ j. go j)
+  served_queued = count_less (λ j. not (list_any (is_of j.event) s.queue)) (λ j. not (list_any (is_served library j) s.queue)) J k.formed.linked.served (λ j. go j)
     where
-      go : (j : Job) → bit (not (any (is_of j.event) s.queue)) ≤ bit (not (any (is_served library j) s.queue))
-      go j = by_cases (any (is_served library j) s.queue)
+      go : (j : Job) → bit (not (list_any (is_of j.event) s.queue)) ≤ bit (not (list_any (is_served library j) s.queue))
+      go j = by_cases (list_any (is_served library j) s.queue)
           (λ t. omega (arith, ap (λ b. bit (not b)) (some-any (is_of j.event) s.queue (omega (arith, any_some (is_served library j) s.queue t, total_le (λ e. bit (is_served library j e)) (λ e. bit (is_of j.event e)) s.queue (λ e. bit_left (is_of j.event e) _))))))
-          (λ f. omega (arith, ap (λ b. bit (not b)) f, bit_le_one (not (any (is_of j.event) s.queue))))
+          (λ f. omega (arith, ap (λ b. bit (not b)) f, bit_le_one (not (list_any (is_of j.event) s.queue))))
 
   goal_by : (id : ℕ) (o : Origin) → bit (is_goal_by id o) ≡ bit (is_goal o && is_goal_by id o)
   goal_by id (External n) = refl
@@ -153,7 +153,7 @@ module _ {library : Library} {h : History} {s : AgentState} (k : Reached library
 
   goal_last : (part : List Job) → count (is_lost h.posted) part ≡ 0
       → ((p : Origin → Bool) → count (λ j. is_asleep j && p (goal_of j.instance)) part ≤ count (λ e. is_goal e.origin && p e.origin) s.queue)
-      → Every (λ j. not (is_asleep j) || any (is_last_goal h.posted j) s.queue) part
+      → Every (λ j. not (is_asleep j) || list_any (is_last_goal h.posted j) s.queue) part
   goal_last [] lost less = refl
   goal_last (j ∷ part) lost less = omega (
     arith,
@@ -163,7 +163,7 @@ module _ {library : Library} {h : History} {s : AgentState} (k : Reached library
     where
       go : (a b : Bool) → is_asleep j ≡ a → same_origin (goal_of j.instance) (last_of j) ≡ b → bit (a && not b) ≡ 0
           → count (λ x. is_asleep x && same_origin (last_of j) (goal_of x.instance)) (j ∷ part) ≤ count (λ e. is_goal e.origin && is_of (last_of j) e) s.queue
-          → (not a || any (is_last_goal h.posted j) s.queue) ≡ true
+          → (not a || list_any (is_last_goal h.posted j) s.queue) ≡ true
       go false b p q z l = refl
       go true false p q z l = absurd (omega arith)
       go true true p q z l =

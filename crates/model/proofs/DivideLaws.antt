@@ -4,7 +4,7 @@ use Prim.Native.Nat.{ℕ}
 use native.Mathlib.Omega.{arith}
 use mathlib.Core.Path.{◌≡◌, refl, ap}
 use mathlib.Core.Bool.{true}
-use mathlib.Core.Option.{Option, none, some}
+use Rattle.std.specs.Prelude.{Option, None, Some}
 use mathlib.Core.List.{List}
 use lib.Dec.{ltb, eqb}
 use borrow.Author.Tests.{le-ltb, eq-eqb, ne_eqb, eqb-true}
@@ -52,8 +52,8 @@ divide-untouched library s stack b kind =
     rw (attempt-divide s.beliefs _ stack.it.top.env b kind) (go (divide b.literal stack.it.top.env))
   where
     go : (o : Option Env) → Untouched s (tried s stack b (try_divide o))
-    go none = record { changes = refl; beliefs = refl; queue = refl }
-    go (some env) = record { changes = refl; beliefs = refl; queue = refl }
+    go None = record { changes = refl; beliefs = refl; queue = refl }
+    go (Some env) = record { changes = refl; beliefs = refl; queue = refl }
 
 -- ---- Nobody waits at it
 

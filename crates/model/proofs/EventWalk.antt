@@ -1,14 +1,14 @@
 -- What a reply is, as one step up to the order of queue and stacks; and that every report, and every cycle that takes up an event, is one.
 use Prim.Native.Nat.{ℕ, ◌≤◌, ◌<◌}
 use mathlib.Core.Path.{◌≡◌, refl, sym, ap, ◌∙◌, subst}
-use mathlib.Core.Option.{Option, none, some}
+use Rattle.std.specs.Prelude.{Option, None, Some}
 use mathlib.Core.List.{List, [], ◌∷◌}
 use mathlib.Core.Bool.{Bool, true, false, cond, ◌&&◌, ◌||◌, not}
 use native.Mathlib.Omega.{arith}
 use lib.Dec.{eqb, ltb, leb}
 use lib.ListN.{length}
 use borrow.Author.Tests.{ltb-true, leb-false, not-true}
-use Rattle.lists.specs.Search.{any}
+use Rattle.std.specs.List.{list_any}
 use Rattle.lists.specs.Gap.{remove_at}
 use Rattle.lists.specs.Counts.{bit, count}
 use Rattle.lists.specs.Places.{Placed, first, change_at}
@@ -102,7 +102,7 @@ module _ (library : Library) (s : AgentState) (w : WellFormed library s) where
         go true true false false f p q x y e = record { kind_ok = p; ground = q; taken_less = leb-false _ _ x; few = leb-false _ _ y }
 
     refusal_ok : is_refusal_for (report kind l) (report_refusal s kind l) ≡ true
-    unfolding report_refusal is_refusal_for any
+    unfolding report_refusal is_refusal_for
     refusal_ok = go (not (is_reportable kind l)) (leb most_number s.taken) (leb most_external (count is_external s.queue)) (is_overfull s.beliefs kind l)
       where
         go : (a b c d : Bool) → is_refusal_for (report kind l) (cond a 5 (cond b 9 (cond c 7 (cond d 6 0)))) ≡ true
@@ -146,7 +146,7 @@ module _ (library : Library) (s : AgentState) (w : WellFormed library s) where
 
     unserved : count (serves e.it.origin) (live s.stacks) ≡ 0
     unfolding is_ready is_pending
-    unserved = any_none (serves e.it.origin) (live s.stacks) (not-true _ (and_parts (not (any (serves e.it.origin) (live s.stacks))) _ f.passes).0)
+    unserved = any_none (serves e.it.origin) (live s.stacks) (not-true _ (and_parts (not (list_any (serves e.it.origin) (live s.stacks))) _ f.passes).0)
 
     -- an external event is taken up only while there are fewer than 8 stacks
     stacks_less : is_goal e.it.origin ≡ false → length s.stacks < most_stacks
@@ -256,9 +256,9 @@ module _ (library : Library) (s : AgentState) (w : WellFormed library s) where
         goal_id t q = cc
 
     pub take_up-moved : (o : Option Chosen) → AptIf e.it.kind e.it.failed library.plans o → Moved library s cycle (take_up s e o)
-    unfolding take_up is_refusal_for any
-    take_up-moved none a = close-moved e.it.origin refl
-    take_up-moved (some chosen) a = go (ltb s.made most_number) refl
+    unfolding take_up is_refusal_for
+    take_up-moved None a = close-moved e.it.origin refl
+    take_up-moved (Some chosen) a = go (ltb s.made most_number) refl
       where
         go : (b : Bool) → ltb s.made most_number ≡ b → Moved library s cycle (cond b (make s chosen e.it.origin) (refuse 9 s))
         go true p = make-moved chosen a (ltb-true s.made most_number p) e.it.origin refl

@@ -7,7 +7,7 @@ use native.Mathlib.Omega.{arith}
 use lib.Dec.{eqb, ltb, leb}
 use lib.ListN.{length, get_or}
 use borrow.Author.Tests.{lt-ltb}
-use Rattle.lists.specs.Search.{any}
+use Rattle.std.specs.List.{list_any}
 use Rattle.lists.specs.Counts.{bit, count, Every}
 use Rattle.lists.proofs.BoolLaws.{both_ways, and_both}
 use Rattle.lists.proofs.CountLaws.{count_less}
@@ -121,7 +121,7 @@ module _ {library : Library} {b : List Literal} {n m : ℕ} where
     unfolding plan_of is_status
     new_sound = record { plan = a.there; state = r.begun chosen.plan a.there; tried = omega arith; env = a.env; status = refl }
 
-    new_served : (o : Origin) → e.origin ≡ o → any (is_served library (job (new_instance m chosen) o)) (e ∷ q) ≡ true
+    new_served : (o : Origin) → e.origin ≡ o → list_any (is_served library (job (new_instance m chosen) o)) (e ∷ q) ≡ true
     unfolding is_served plan_of
     new_served o p = some-any (is_served library (job (new_instance m chosen) o)) (e ∷ q) (omega (
       arith,

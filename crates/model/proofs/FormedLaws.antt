@@ -6,7 +6,7 @@ use mathlib.Core.Bool.{true, ◌&&◌}
 use native.Mathlib.Omega.{arith}
 use lib.Dec.{leb}
 use lib.ListN.{length}
-use Rattle.lists.specs.Search.{all}
+use Rattle.std.specs.List.{list_all}
 use Rattle.lists.specs.Counts.{bit, count}
 use Rattle.lists.proofs.BoolLaws.{and_parts}
 use Rattle.lists.proofs.CountLaws.{bit_left, bit_right, bit_every, total-append, total-length, total_le}
@@ -47,9 +47,9 @@ reform {ks = ks} {ks' = ks'} a b i = record {
   made_small = i.made_small;
 }
 
-pub beliefs_ground : (beliefs : List Literal) → are_beliefs beliefs ≡ true → all is_ground beliefs ≡ true
+pub beliefs_ground : (beliefs : List Literal) → are_beliefs beliefs ≡ true → list_all is_ground beliefs ≡ true
 unfolding are_beliefs
-beliefs_ground beliefs h = (and_parts (all is_ground beliefs) _ (and_parts (leb (length beliefs) most_beliefs) (are_sound beliefs) h).1).0
+beliefs_ground beliefs h = (and_parts (list_all is_ground beliefs) _ (and_parts (leb (length beliefs) most_beliefs) (are_sound beliefs) h).1).0
 
 -- ---- A first stack
 

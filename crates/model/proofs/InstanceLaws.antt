@@ -6,7 +6,7 @@ use native.Mathlib.Omega.{arith}
 use lib.Dec.{ltb, leb, eqb}
 use lib.ListN.{length, get_or}
 use borrow.Author.Tests.{lt-ltb, ltb-true, le-leb, leb-true, leb-false, lt-leb, not-true}
-use Rattle.lists.specs.Search.{all}
+use Rattle.std.specs.List.{list_all}
 use Rattle.lists.proofs.BoolLaws.{by_cases, both_ways, and_parts, and_both}
 use Rattle.lists.proofs.TestCounts.{all_every, every_all}
 use Rattle.literal.specs.declared.Env.{Env}
@@ -74,14 +74,14 @@ sound_parts library x e =
 pub stack-both : (stack : Intention) → Stacked stack → is_stack stack ≡ true
 unfolding is_stack
 stack-both stack s =
-    and_both (all (λ x. is_suspended x.status) stack.below) _ (every_all (λ x. is_suspended x.status) stack.below s.asleep)
+    and_both (list_all (λ x. is_suspended x.status) stack.below) _ (every_all (λ x. is_suspended x.status) stack.below s.asleep)
     (and_both (leb (height_of stack) most_height) _ (le-leb _ _ s.height)
     (by_cases (is_suspended stack.top.status) (λ e. rw (e, lt-leb _ _ (s.room e))) (λ e. rw e)))
 
 pub stack-parts : (stack : Intention) → is_stack stack ≡ true → Stacked stack
 unfolding is_stack
 stack-parts stack e =
-    let a = and_parts (all (λ x. is_suspended x.status) stack.below) _ e in
+    let a = and_parts (list_all (λ x. is_suspended x.status) stack.below) _ e in
     let b = and_parts (leb (height_of stack) most_height) _ a.1 in
     record {
       asleep = all_every (λ x. is_suspended x.status) stack.below a.0;

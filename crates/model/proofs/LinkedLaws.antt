@@ -6,7 +6,7 @@ use mathlib.Core.Bool.{Bool, true, false, ◌&&◌, ◌||◌, not}
 use native.Mathlib.Omega.{arith}
 use lib.Dec.{eqb}
 use borrow.Author.Tests.{eqb-true, eq-eqb}
-use Rattle.lists.specs.Search.{any}
+use Rattle.std.specs.List.{list_any}
 use Rattle.lists.specs.Counts.{bit, count, Every}
 use Rattle.lists.proofs.BoolLaws.{by_cases, both_ways}
 use Rattle.lists.proofs.AndLaws.{and_first, and_second}
@@ -33,8 +33,8 @@ job x origin = record { instance = x; event = origin }
 
 -- ---- Order does not matter
 
-pub any_like : {A : Type 0} (test : A → Bool) {xs ys : List A} → Like xs ys → any test xs ≡ any test ys
-any_like test {xs} {ys} a = by_cases (any test xs)
+pub any_like : {A : Type 0} (test : A → Bool) {xs ys : List A} → Like xs ys → list_any test xs ≡ list_any test ys
+any_like test {xs} {ys} a = by_cases (list_any test xs)
     (λ e. e ∙ sym (some-any test ys (omega (arith, any_some test xs e, a.sums (λ x. bit (test x))))))
     (λ e. e ∙ sym (none_any test ys (omega (arith, any_none test xs e, a.sums (λ x. bit (test x))))))
 
@@ -44,7 +44,7 @@ relink {library} {q} {q'} {J} {J'} a b i = record {
   id_once = λ k. omega (arith, i.id_once k, b.sums (λ j. bit (eqb k j.instance.id)));
   event_once = λ o. omega (arith, i.event_once o, a.sums (λ e. bit (is_of o e)));
   served_once = λ o. omega (arith, i.served_once o, b.sums (λ j. bit (serves o j)));
-  served = sym (total_same (λ j. bit (not (any (is_served library j) q))) (λ j. bit (not (any (is_served library j) q'))) J' (λ j. ap (λ c. bit (not c)) (any_like (is_served library j) a))) ∙ sym (b.sums _) ∙ i.served;
+  served = sym (total_same (λ j. bit (not (list_any (is_served library j) q))) (λ j. bit (not (list_any (is_served library j) q'))) J' (λ j. ap (λ c. bit (not c)) (any_like (is_served library j) a))) ∙ sym (b.sums _) ∙ i.served;
   goals = λ o. sym (a.sums _) ∙ i.goals o ∙ b.sums _;
   posters = sym (total_same (λ j. bit (not (has_goal library q j))) (λ j. bit (not (has_goal library q' j))) J' (λ j. ap (λ c. bit (not (not (is_suspended j.instance.status) || c))) (any_like (is_goal_for library j.instance) a))) ∙ sym (b.sums _) ∙ i.posters;
 }
@@ -80,16 +80,15 @@ module _ {library : Library} {q : List Event} {J : List Job} (i : Linked library
       (λ t. let z₁ : count (is_of o) q ≡ 0 = subst (λ u. count (is_of u) q ≡ 0) (sym (origin_equal o e.origin t)) z in omega (arith, ap bit t))
       (λ f. omega (arith, i.event_once o, ap bit f))
 
-  served_more : Every (λ j. any (is_served library j) (e ∷ q)) J
-  unfolding any
+  served_more : Every (λ j. list_any (is_served library j) (e ∷ q)) J
   served_more = omega (
     arith,
     i.served,
-    total_le (λ j. bit (not (any (is_served library j) (e ∷ q)))) (λ j. bit (not (any (is_served library j) q))) J (λ j. or_more (is_served library j e) _),
+    total_le (λ j. bit (not (list_any (is_served library j) (e ∷ q)))) (λ j. bit (not (list_any (is_served library j) q))) J (λ j. or_more (is_served library j e) _),
   )
 
   posters_more : (part : List Job) → Every (has_goal library q) part → Every (has_goal library (e ∷ q)) part
-  unfolding any has_goal
+  unfolding has_goal
   posters_more part h = omega (
     arith,
     total_le (λ j. bit (not (has_goal library (e ∷ q) j))) (λ j. bit (not (has_goal library q j))) part (λ j. or_mono (not (is_suspended j.instance.status)) _ _ (or_more (is_goal_for library j.instance e) _)),
@@ -109,19 +108,18 @@ module _ {library : Library} {q : List Event} {J : List Job} (i : Linked library
 -- ---- An event that goes: others have as much as before
 
 pub served_less : (library : Library) (q : List Event) (J : List Job) (e : Event) → count (serves e.origin) J ≡ 0
-    → Every (λ j. any (is_served library j) (e ∷ q)) J → Every (λ j. any (is_served library j) q) J
-unfolding any
-served_less library q J e z h = sym (total_unless (serves e.origin) (λ j. bit (not (any (is_served library j) (e ∷ q)))) (λ j. bit (not (any (is_served library j) q))) J z
-    (λ j f. ap (λ c. bit (not (c || any (is_served library j) q))) (served_off library j e f))) ∙ h
+    → Every (λ j. list_any (is_served library j) (e ∷ q)) J → Every (λ j. list_any (is_served library j) q) J
+served_less library q J e z h = sym (total_unless (serves e.origin) (λ j. bit (not (list_any (is_served library j) (e ∷ q)))) (λ j. bit (not (list_any (is_served library j) q))) J z
+    (λ j f. ap (λ c. bit (not (c || list_any (is_served library j) q))) (served_off library j e f))) ∙ h
 
 pub posters_less : (library : Library) (q : List Event) (J : List Job) (e : Event) → count (is_posted e.origin) J ≡ 0
     → Every (has_goal library (e ∷ q)) J → Every (has_goal library q) J
-unfolding any has_goal
+unfolding has_goal
 posters_less library q J e z h = sym (total_unless (is_posted e.origin) (λ j. bit (not (has_goal library (e ∷ q) j))) (λ j. bit (not (has_goal library q j))) J z (λ j f. go j (is_suspended j.instance.status) f)) ∙ h
   where
     go : (j : Job) (b : Bool) → (b && same_origin e.origin (goal_of j.instance)) ≡ false
-        → bit (not (not b || (is_goal_for library j.instance e || any (is_goal_for library j.instance) q))) ≡ bit (not (not b || any (is_goal_for library j.instance) q))
-    go j true f = ap (λ c. bit (not (c || any (is_goal_for library j.instance) q))) (goal_off library j.instance e f)
+        → bit (not (not b || (is_goal_for library j.instance e || list_any (is_goal_for library j.instance) q))) ≡ bit (not (not b || list_any (is_goal_for library j.instance) q))
+    go j true f = ap (λ c. bit (not (c || list_any (is_goal_for library j.instance) q))) (goal_off library j.instance e f)
     go j false f = refl
 
 -- nobody has an external event for a goal
@@ -169,7 +167,7 @@ module _ {library : Library} {t : Instance} {o : Origin} {J : List Job} where
 
   -- M
   pub link_made : {q : List Event} → Linked library q J → count (λ j. eqb t.id j.instance.id) J ≡ 0 → is_suspended t.status ≡ false
-      → count (serves o) J ≡ 0 → any (is_served library (job t o)) q ≡ true → Linked library q (job t o ∷ J)
+      → count (serves o) J ≡ 0 → list_any (is_served library (job t o)) q ≡ true → Linked library q (job t o ∷ J)
   unfolding has_goal
   link_made {q} i n s z f = record {
     id_once = λ k. by_cases (eqb k t.id)
@@ -181,7 +179,7 @@ module _ {library : Library} {t : Instance} {o : Origin} {J : List Job} where
         (λ e. omega (arith, i.served_once u, ap bit e));
     served = omega (arith, i.served, ap (λ b. bit (not b)) f);
     goals = λ u. omega (arith, i.goals u, ap (λ c. bit (c && same_origin u (goal_of t))) s);
-    posters = omega (arith, i.posters, ap (λ c. bit (not (not c || any (is_goal_for library t) q))) s);
+    posters = omega (arith, i.posters, ap (λ c. bit (not (not c || list_any (is_goal_for library t) q))) s);
   }
 
   module _ {q : List Event} (i : Linked library q (job t o ∷ J)) (s : is_suspended t.status ≡ false) where
@@ -194,7 +192,7 @@ module _ {library : Library} {t : Instance} {o : Origin} {J : List Job} where
       served_once = i.served_once;
       served = i.served;
       goals = λ w. omega (arith, i.goals w, ap (λ c. bit (c && same_origin w (goal_of t))) s, ap (λ c. bit (c && same_origin w (goal_of (moved t v a k u)))) f);
-      posters = omega (arith, i.posters, ap (λ c. bit (not (not c || any (is_goal_for library (moved t v a k u)) q))) f);
+      posters = omega (arith, i.posters, ap (λ c. bit (not (not c || list_any (is_goal_for library (moved t v a k u)) q))) f);
     }
 
     -- no goal of the first instance is queued
@@ -210,7 +208,7 @@ module _ {library : Library} {t : Instance} {o : Origin} {J : List Job} where
     -- G
     pub link_posted : (e : Event) → e.origin ≡ goal_of (try_next Suspended t) → is_goal_for library (try_next Suspended t) e ≡ true
         → Linked library (e ∷ q) (job (try_next Suspended t) o ∷ J)
-    unfolding is_served plan_of has_goal any
+    unfolding is_served plan_of has_goal
     link_posted e p g =
         let z = unposted e.origin (try_next Suspended t) refl p in
         record {
@@ -222,7 +220,7 @@ module _ {library : Library} {t : Instance} {o : Origin} {J : List Job} where
           posters = omega (
             arith,
             posters_more i e z J (omega (arith, i.posters)),
-            or_left (is_goal_for library (try_next Suspended t) e) (any (is_goal_for library (try_next Suspended t)) q) g,
+            or_left (is_goal_for library (try_next Suspended t) e) (list_any (is_goal_for library (try_next Suspended t)) q) g,
           );
         }
 
@@ -246,14 +244,14 @@ module _ {library : Library} {e : Event} {q : List Event} {t : Instance} {o : Or
 
   -- F
   pub link_failed : (plan : ℕ) → Linked library (marked plan e ∷ q) J
-  unfolding any has_goal is_goal_for
+  unfolding has_goal is_goal_for
   link_failed plan = record {
     id_once = λ k. omega (arith, i.id_once k);
     event_once = i.event_once;
     served_once = λ u. omega (arith, i.served_once u);
     served = omega (
       arith,
-      total_le (λ j. bit (not (any (is_served library j) (marked plan e ∷ q)))) (λ j. bit (not (any (is_served library j) q))) J (λ j. or_more (is_served library j (marked plan e)) _),
+      total_le (λ j. bit (not (list_any (is_served library j) (marked plan e ∷ q)))) (λ j. bit (not (list_any (is_served library j) q))) J (λ j. or_more (is_served library j (marked plan e)) _),
       served_less library q J e unshared (omega (arith, i.served)),
     );
     goals = λ u. omega (arith, i.goals u, ap (λ c. bit (c && same_origin u (goal_of t))) s);
@@ -265,7 +263,7 @@ pub link_past : {library : Library} {e : Event} {q : List Event} {t c : Instance
     → Linked library (e ∷ q) (job t o ∷ job c u ∷ J)
     → o ≡ e.origin → is_suspended t.status ≡ false → e.origin ≡ goal_of c → is_suspended c.status ≡ true
     → (v : Env) (a k : ℕ) (status : Status) → is_suspended status ≡ false → Linked library q (job (moved c v a k status) u ∷ J)
-unfolding is_served plan_of has_goal any
+unfolding is_served plan_of has_goal
 link_past {library} {e} {q} {t} {c} {o} {u} {J} i g s p w v a k status f = record {
   id_once = λ n. omega (arith, i.id_once n);
   event_once = λ x. omega (arith, i.event_once x);
@@ -275,6 +273,6 @@ link_past {library} {e} {q} {t} {c} {o} {u} {J} i g s p w v a k status f = recor
   posters = omega (
     arith,
     posters_less library q J e (other_goals c u e.origin J (λ n. omega (arith, i.id_once n)) p) (omega (arith, i.posters)),
-    ap (λ b. bit (not (not b || any (is_goal_for library (moved c v a k status)) q))) f,
+    ap (λ b. bit (not (not b || list_any (is_goal_for library (moved c v a k status)) q))) f,
   );
 }

@@ -8,7 +8,8 @@ use native.Mathlib.Omega.{arith}
 use lib.Dec.{ltb}
 use lib.ListN.{length, get_or}
 use borrow.Author.Tests.{ltb-true, ltb-false, not-true, not-false}
-use Rattle.lists.specs.Search.{any, position}
+use Rattle.std.specs.List.{list_any}
+use Rattle.lists.specs.Search.{position}
 use Rattle.lists.specs.Counts.{bit, total, count}
 use Rattle.lists.proofs.BoolLaws.{by_cases, and_parts}
 use Rattle.lists.proofs.CountLaws.{bit_left, total-add, total_le, total-length, total_same, total_swap, total_unless}
@@ -33,7 +34,7 @@ use Rattle.model.proofs.FormedLaws.{reform, poster_found}
 -- an event is pending, or served by one instance
 pending_or_served : (jobs : List Job) (e : Event) → count (serves e.origin) jobs ≤ 1 → bit (is_pending jobs e) + count (serves e.origin) jobs ≡ 1
 unfolding is_pending
-pending_or_served jobs e once = by_cases (any (serves e.origin) jobs)
+pending_or_served jobs e once = by_cases (list_any (serves e.origin) jobs)
     (λ t. omega (arith, ap (λ b. bit (not b)) t, any_some (serves e.origin) jobs t))
     (λ f. omega (arith, ap (λ b. bit (not b)) f, any_none (serves e.origin) jobs f))
 
@@ -47,10 +48,10 @@ module _ {library : Library} {b : List Literal} {q : List Event} {ks : List Inte
   served_one : total (λ j. count (is_of j.event) q) (live ks) ≡ length (live ks)
   unfolding is_served
   served_one =
-      total_unless (λ j. not (any (is_served library j) q)) (λ j. count (is_of j.event) q) (λ j. 1) (live ks) i.linked.served one
+      total_unless (λ j. not (list_any (is_served library j) q)) (λ j. count (is_of j.event) q) (λ j. 1) (live ks) i.linked.served one
       ∙ sym (total-length (live ks))
     where
-      one : (j : Job) → not (any (is_served library j) q) ≡ false → count (is_of j.event) q ≡ 1
+      one : (j : Job) → not (list_any (is_served library j) q) ≡ false → count (is_of j.event) q ≡ 1
       one j h =
           let some = any_some (is_served library j) q (not-false _ h) in
           let less = total_le (λ e. bit (is_served library j e)) (λ e. bit (is_of j.event e)) q (λ e. bit_left (is_of j.event e) _) in
@@ -69,7 +70,7 @@ module _ {library : Library} {b : List Literal} {q : List Event} {ks : List Inte
 
   -- ---- None may be taken up
 
-  none_first : any (is_ready (live ks) (length ks)) q ≡ false → position (is_ready (live ks) (length ks)) q ≡ length q
+  none_first : list_any (is_ready (live ks) (length ks)) q ≡ false → position (is_ready (live ks) (length ks)) q ≡ length q
   none_first f =
       let test = is_ready (live ks) (length ks) in
       let past : ltb (position test q) (length q) ≡ false = sym (any-position test q) ∙ f in
@@ -83,9 +84,9 @@ module _ {library : Library} {b : List Literal} {q : List Event} {ks : List Inte
       none_first (none_any (is_ready (live ks) (length ks)) q (omega (arith, less, pending_count)))
 
   -- there is no room for a stack, and no top is suspended
-  pub none_ready : most_stacks ≤ length ks → any (λ k. is_suspended k.top.status) ks ≡ false → position (is_ready (live ks) (length ks)) q ≡ length q
+  pub none_ready : most_stacks ≤ length ks → list_any (λ k. is_suspended k.top.status) ks ≡ false → position (is_ready (live ks) (length ks)) q ≡ length q
   unfolding is_ready is_pending
-  none_ready full awake = none_first (by_cases (any test q) (λ t. absurd (omega (arith, poster t, sleepers))) (λ f. f))
+  none_ready full awake = none_first (by_cases (list_any test q) (λ t. absurd (omega (arith, poster t, sleepers))) (λ f. f))
     where
       test : Event → Bool
       test = is_ready (live ks) (length ks)
@@ -105,7 +106,7 @@ module _ {library : Library} {b : List Literal} {q : List Event} {ks : List Inte
       goal_there true e = refl
       goal_there false e = absurd (omega (arith, ltb-true (length ks) most_stacks e))
 
-      poster : any test q ≡ true → 1 ≤ count (is_poster event.origin) ks
+      poster : list_any test q ≡ true → 1 ≤ count (is_poster event.origin) ks
       poster t =
           let low = ltb-true place (length q) (sym (any-position test q) ∙ t) in
           let ready = and_parts (is_pending (live ks) event) (is_goal event.origin || ltb (length ks) most_stacks) (passes_at test q place no_event refl low) in

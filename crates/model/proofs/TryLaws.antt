@@ -1,14 +1,14 @@
 -- What comes of a branch keeps the rules: what is bound is an environment, what changes is a belief table, what is posted is a goal.
 use Prim.Native.Nat.{ℕ, ◌≤◌, ◌<◌}
 use mathlib.Core.Path.{◌≡◌, refl, ap}
-use mathlib.Core.Option.{Option, none, some}
+use Rattle.std.specs.Prelude.{Option, None, Some}
 use mathlib.Core.Bool.{Bool, true, false, cond, not, ◌&&◌}
 use mathlib.Core.List.{List, []}
 use native.Mathlib.Omega.{arith}
 use lib.Dec.{ltb, leb, eqb}
 use lib.ListN.{length}
 use borrow.Author.Tests.{ltb-false, leb-false, le-leb, eqb-false, not-false}
-use Rattle.lists.specs.Search.{all}
+use Rattle.std.specs.List.{list_all}
 use Rattle.lists.proofs.BoolLaws.{or_parts, and_both}
 use Rattle.literal.specs.declared.Literal.{Literal}
 use Rattle.literal.specs.declared.Env.{Env}
@@ -48,7 +48,7 @@ module _ (beliefs : List Literal) (height : ℕ) (env : Env) (b : Branch) where
   TryOk (done literal) = is_action_kind b.kind ≡ true
   TryOk (posted goal) = Posting height b.kind (instantiate env b.literal) goal
 
-  module _ (h : are_beliefs beliefs ≡ true) (ground : all is_ground beliefs ≡ true) (e : is_env env ≡ true) where
+  module _ (h : are_beliefs beliefs ≡ true) (ground : list_all is_ground beliefs ≡ true) (e : is_env env ≡ true) where
     still : (next : Env) → is_env next ≡ true → Stepping beliefs next []
     unfolding replay are_effective
     still next p = record { env_ok = p; table = h; effect = refl; few = omega arith }
@@ -73,7 +73,7 @@ module _ (beliefs : List Literal) (height : ℕ) (env : Env) (b : Branch) where
     unfolding answer_to
     answer_ok = go (eqb b.kind achieve_kind) (is_ground (instantiate env b.literal) && holds beliefs (instantiate env b.literal))
       where
-        go : (k p : Bool) → EnvIf (cond k (cond p (some env) none) (ask beliefs b.literal env))
+        go : (k p : Bool) → EnvIf (cond k (cond p (Some env) None) (ask beliefs b.literal env))
         go true true = e
         go true false = tt
         go false p = ask_env_if beliefs ground b.literal env e
@@ -83,8 +83,8 @@ module _ (beliefs : List Literal) (height : ℕ) (env : Env) (b : Branch) where
     divide_ok = go (divide b.literal env) refl
       where
         go : (o : Option Env) → divide b.literal env ≡ o → TryOk (try_divide o)
-        go none p = tt
-        go (some next) p = still next (divide_env b.literal env next p e)
+        go None p = tt
+        go (Some next) p = still next (divide_env b.literal env next p e)
 
     pursue_ok : is_goal_kind b.kind ≡ true
         → TryOk (pursue (answer_to b.kind beliefs env b.literal) (is_barred b.kind beliefs height (instantiate env b.literal)) (instantiate env b.literal))
@@ -93,9 +93,9 @@ module _ (beliefs : List Literal) (height : ℕ) (env : Env) (b : Branch) where
       where
         go : (o : Option Env) → EnvIf o → (barred : Bool) → is_barred b.kind beliefs height (instantiate env b.literal) ≡ barred
             → TryOk (pursue o barred (instantiate env b.literal))
-        go (some next) p barred q = still next p
-        go none p true q = tt
-        go none p false q =
+        go (Some next) p barred q = still next p
+        go None p true q = tt
+        go None p false q =
             let first = or_parts (not (is_ground (instantiate env b.literal))) _ q in
             let second = or_parts (not (eqb b.kind achieve_kind) && holds beliefs (opposite (instantiate env b.literal))) _ first.1 in
             record { is_goal_lem = k; same_literal = refl; ground = not-false _ first.0; low = leb-false most_height height second.1 }

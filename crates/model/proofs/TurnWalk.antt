@@ -1,13 +1,13 @@
 -- Every cycle that runs a stack, and every outcome, is one step up to the order of queue and stacks; so every call on a well-formed state is one.
 use Prim.Native.Nat.{ℕ, ◌≤◌}
 use mathlib.Core.Path.{◌≡◌, refl}
-use mathlib.Core.Option.{Option, none, some}
+use Rattle.std.specs.Prelude.{Option, None, Some}
 use mathlib.Core.List.{List, [], ◌∷◌, ◌++◌}
 use mathlib.Core.Bool.{Bool, true, false}
 use native.Mathlib.Omega.{arith}
 use lib.Dec.{eqb}
 use lib.ListN.{length}
-use Rattle.lists.specs.Search.{any}
+use Rattle.std.specs.List.{list_any}
 use Rattle.lists.specs.Gap.{remove_at}
 use Rattle.lists.specs.Counts.{count}
 use Rattle.lists.specs.Places.{Placed, first}
@@ -197,18 +197,18 @@ module _ (library : Library) (r : Acceptable library) (s : AgentState) (w : Well
       → (k : Option (Placed Intention)) → FoundIf is_running s.stacks k
       → Moved library s cycle (cycle_by library s e k)
   unfolding cycle_by choice_for
-  cycle-moved (some e) f k g =
+  cycle-moved (Some e) f k g =
       take_up-moved library s w e f _ (choose_apt s.beliefs (beliefs_ground s.beliefs w.table) e.it.kind e.it.literal e.it.failed library.plans (literal_ground library s w e f))
-  cycle-moved none f (some k) g = turn_moved is_running k g (active_awake k.it.top.status g.passes)
-  cycle-moved none f none g = stays library s w cycle Idle Step.idle
+  cycle-moved None f (Some k) g = turn_moved is_running k g (active_awake k.it.top.status g.passes)
+  cycle-moved None f None g = stays library s w cycle Idle Step.idle
 
   -- ---- Outcome
 
   outcome-moved : (id : ℕ) (worked : Bool) (k : Option (Placed Intention)) → FoundIf (is_awaiting id) s.stacks k
       → Moved library s (outcome id worked) (outcome_by library s worked k)
-  unfolding outcome_by replay are_effective is_refusal_for any
-  outcome-moved id worked none g = stays library s w (outcome id worked) _ (Step.refused 8 refl)
-  outcome-moved id true (some k) g = record {
+  unfolding outcome_by replay are_effective is_refusal_for
+  outcome-moved id worked None g = stays library s w (outcome id worked) _ (Step.refused 8 refl)
+  outcome-moved id true (Some k) g = record {
     queue = s.queue;
     queue' = s.queue;
     stacks = k.it ∷ remove_at k.place s.stacks;
@@ -223,7 +223,7 @@ module _ (library : Library) (r : Acceptable library) (s : AgentState) (w : Well
     effect = refl;
     few = omega arith;
   }
-  outcome-moved id false (some k) g = record {
+  outcome-moved id false (Some k) g = record {
     queue = s.queue;
     queue' = s.queue;
     stacks = k.it ∷ remove_at k.place s.stacks;

@@ -1,7 +1,7 @@
 -- A refused call and an idle cycle leave the state as it was, for every state: no other answer is a refusal or idle.
 use Prim.Native.Nat.{ℕ}
 use mathlib.Core.Path.{refl}
-use mathlib.Core.Option.{Option, none, some}
+use Rattle.std.specs.Prelude.{Option, None, Some}
 use mathlib.Core.Bool.{Bool, true, false, cond}
 use lib.Dec.{eqb, ltb}
 use Rattle.lists.specs.Places.{Placed, first}
@@ -50,8 +50,8 @@ module _ (library : Library) (s : AgentState) where
 
   take_up-unchanged : (event : Placed Event) (o : Option Chosen) → Unchanged s (take_up s event o)
   unfolding take_up
-  take_up-unchanged event none = close-unchanged event event.it.origin
-  take_up-unchanged event (some chosen) = go (ltb s.made most_number)
+  take_up-unchanged event None = close-unchanged event event.it.origin
+  take_up-unchanged event (Some chosen) = go (ltb s.made most_number)
     where
       go : (b : Bool) → Unchanged s (cond b (make s chosen event.it.origin) (refuse 9 s))
       go true = make-unchanged chosen event.it.origin
@@ -72,17 +72,17 @@ module _ (library : Library) (s : AgentState) where
 
   cycle-unchanged : (event : Option (Placed Event)) (k : Option (Placed Intention)) → Unchanged s (cycle_by library s event k)
   unfolding cycle_by turn
-  cycle-unchanged (some event) k = take_up-unchanged event (choice_for library s event.it)
-  cycle-unchanged none (some k) = turn-unchanged k (next_move library s.beliefs k.it.top)
-  cycle-unchanged none none = λ e. refl
+  cycle-unchanged (Some event) k = take_up-unchanged event (choice_for library s event.it)
+  cycle-unchanged None (Some k) = turn-unchanged k (next_move library s.beliefs k.it.top)
+  cycle-unchanged None None = λ e. refl
 
   -- ---- Outcome
 
   outcome-unchanged : (worked : Bool) (k : Option (Placed Intention)) → Unchanged s (outcome_by library s worked k)
   unfolding outcome_by
-  outcome-unchanged worked none e = refl
-  outcome-unchanged true (some k) e = both_ways e refl
-  outcome-unchanged false (some k) e = both_ways e refl
+  outcome-unchanged worked None e = refl
+  outcome-unchanged true (Some k) e = both_ways e refl
+  outcome-unchanged false (Some k) e = both_ways e refl
 
   -- ---- Every call
 

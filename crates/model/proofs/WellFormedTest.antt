@@ -8,7 +8,8 @@ use native.Mathlib.Omega.{arith}
 use lib.Dec.{eqb, ltb, leb}
 use lib.ListN.{length}
 use borrow.Author.Tests.{le-leb, leb-true, eqb-true, eqb-false}
-use Rattle.lists.specs.Search.{any, all, distinct}
+use Rattle.std.specs.List.{list_any, list_all}
+use Rattle.lists.specs.Search.{distinct}
 use Rattle.lists.specs.Counts.{bit, count, Every}
 use Rattle.lists.proofs.BoolLaws.{by_cases, both_ways, and_parts, and_both}
 use Rattle.lists.proofs.CountLaws.{bit_left, bit_right, bit_every, bit_le_one, total_le, total_zero, count_less}
@@ -70,8 +71,8 @@ module _ (q : List Event) (J : List Job) where
         arith,
         goals_posted h part (λ o. omega (arith, less o)),
         ap (λ b. bit (not b)) (by_cases (is_goal e.origin)
-            (λ g. ap (λ b. not b || any (is_posted e.origin) J) g ∙ some-any (is_posted e.origin) J (omega (arith, h e.origin, less e.origin, ap bit (and_both (is_goal e.origin) (is_of e.origin e) g (origin_same e.origin)))))
-            (λ g. ap (λ b. not b || any (is_posted e.origin) J) g)),
+            (λ g. ap (λ b. not b || list_any (is_posted e.origin) J) g ∙ some-any (is_posted e.origin) J (omega (arith, h e.origin, less e.origin, ap bit (and_both (is_goal e.origin) (is_of e.origin e) g (origin_same e.origin)))))
+            (λ g. ap (λ b. not b || list_any (is_posted e.origin) J) g)),
       )
 
   module _ (library : Library) (ids : (k : ℕ) → count (λ j. eqb k j.instance.id) J ≤ 1) (once : (o : Origin) → count (is_of o) q ≤ 1) (posters : Every (has_goal library q) J) (posted : Every (has_poster J) q) where
@@ -108,14 +109,14 @@ module _ (q : List Event) (J : List Job) where
             at (External n) = omega arith
             at (Goal x y v) = bit_left (same_origin (Goal i s b) (Goal x y v)) c
 
-        none_for : (j : Job) → same_origin o (goal_of j.instance) ≡ true → any (is_goal_for library j.instance) q ≡ false
-        none_for j e = by_cases (any (is_goal_for library j.instance) q)
+        none_for : (j : Job) → same_origin o (goal_of j.instance) ≡ true → list_any (is_goal_for library j.instance) q ≡ false
+        none_for j e = by_cases (list_any (is_goal_for library j.instance) q)
             (λ t. let z₁ : queued (goal_of j.instance) ≡ 0 = subst (λ u. queued u ≡ 0) (origin_equal o (goal_of j.instance) e) z in
             absurd (omega (arith, any_some (is_goal_for library j.instance) q t, total_le (λ x. bit (is_goal_for library j.instance x)) (λ x. bit (is_goal x.origin && is_of (goal_of j.instance) x)) q (λ x. goal_queued (goal_of j.instance) x _ refl))))
             (λ f. f)
 
         go : (j : Job) (a b : Bool) → same_origin o (goal_of j.instance) ≡ b
-            → bit (a && b) ≤ bit (not (not a || any (is_goal_for library j.instance) q))
+            → bit (a && b) ≤ bit (not (not a || list_any (is_goal_for library j.instance) q))
         go j true true e = omega (arith, ap (λ c. bit (not c)) (none_for j e))
         go j true false e = omega arith
         go j false b e = omega arith
@@ -125,12 +126,12 @@ module _ (q : List Event) (J : List Job) where
     unfolding has_poster
     none-queued o z = count_less (λ e. is_goal e.origin && is_of o e) (λ e. not (has_poster J e)) q posted (λ e. go e (is_goal e.origin) (is_of o e) refl)
       where
-        none_for : (e : Event) → is_of o e ≡ true → any (is_posted e.origin) J ≡ false
-        none_for e f = by_cases (any (is_posted e.origin) J)
+        none_for : (e : Event) → is_of o e ≡ true → list_any (is_posted e.origin) J ≡ false
+        none_for e f = by_cases (list_any (is_posted e.origin) J)
             (λ t. let z₁ : asleep e.origin ≡ 0 = subst (λ u. asleep u ≡ 0) (origin_equal o e.origin f) z in absurd (omega (arith, any_some (is_posted e.origin) J t)))
             (λ x. x)
 
-        go : (e : Event) (a b : Bool) → is_of o e ≡ b → bit (a && b) ≤ bit (not (not a || any (is_posted e.origin) J))
+        go : (e : Event) (a b : Bool) → is_of o e ≡ b → bit (a && b) ≤ bit (not (not a || list_any (is_posted e.origin) J))
         go e true true f = omega (arith, ap (λ c. bit (not c)) (none_for e f))
         go e true false f = omega arith
         go e false b f = omega arith
@@ -156,11 +157,11 @@ module _ (library : Library) (s : AgentState) where
   formed_test w =
       and_both (are_beliefs s.beliefs) _ w.table (and_both (leb s.taken most_number) _ (le-leb _ _ w.taken_small) (and_both (leb s.made most_number) _ (le-leb _ _ w.made_small)
       (and_both (are_events library s.taken s.queue) _ events (and_both (are_instances library s.made J) _ instances
-      (and_both (leb (length s.stacks) most_stacks) _ (le-leb _ _ w.few) (and_both (all is_stack s.stacks) _ (every_all is_stack s.stacks w.stacked) services))))))
+      (and_both (leb (length s.stacks) most_stacks) _ (le-leb _ _ w.few) (and_both (list_all is_stack s.stacks) _ (every_all is_stack s.stacks w.stacked) services))))))
     where
       events : are_events library s.taken s.queue ≡ true
       events =
-          and_both (all (is_event_sound library s.taken) s.queue) _
+          and_both (list_all (is_event_sound library s.taken) s.queue) _
           (every_all (is_event_sound library s.taken) s.queue
           (both_every (λ e. is_numbered s.taken e.origin) _ s.queue w.local.numbers
           (both_every (λ e. is_goal e.origin || leb e.kind told_kind) _ s.queue w.local.kinds
@@ -169,15 +170,15 @@ module _ (library : Library) (s : AgentState) where
 
       instances : are_instances library s.made J ≡ true
       instances =
-          and_both (all (is_instance library s.made) J) _
+          and_both (list_all (is_instance library s.made) J) _
           (every_all (is_instance library s.made) J (both_every (λ j. is_within s.made j.instance.id) (λ j. is_sound library j.instance) J w.local.ids w.local.sounds))
           (once_distinct (λ (j : Job). j.instance.id) eqb eqb-true eqb_same J w.linked.id_once)
 
       services : are_served library s.queue J ≡ true
       services =
-          and_both (all (λ j. any (is_served library j) s.queue) J) _ (every_all (λ j. any (is_served library j) s.queue) J w.linked.served)
+          and_both (list_all (λ j. list_any (is_served library j) s.queue) J) _ (every_all (λ j. list_any (is_served library j) s.queue) J w.linked.served)
           (and_both (distinct same_served J) _ (once_distinct (λ (j : Job). j.event) same_origin origin_equal origin_same J w.linked.served_once)
-          (and_both (all (has_goal library s.queue) J) _ (every_all (has_goal library s.queue) J w.linked.posters)
+          (and_both (list_all (has_goal library s.queue) J) _ (every_all (has_goal library s.queue) J w.linked.posters)
           (every_all (has_poster J) s.queue (goals_posted s.queue J w.linked.goals s.queue (λ o. omega arith)))))
 
   -- ---- The test gives the facts
@@ -191,17 +192,17 @@ module _ (library : Library) (s : AgentState) where
       let d = and_parts (are_events library s.taken s.queue) _ c.1 in
       let f = and_parts (are_instances library s.made J) _ d.1 in
       let g = and_parts (leb (length s.stacks) most_stacks) _ f.1 in
-      let h = and_parts (all is_stack s.stacks) (are_served library s.queue J) g.1 in
-      let d₁ = and_parts (all (is_event_sound library s.taken) s.queue) _ d.0 in
+      let h = and_parts (list_all is_stack s.stacks) (are_served library s.queue J) g.1 in
+      let d₁ = and_parts (list_all (is_event_sound library s.taken) s.queue) _ d.0 in
       let d₂ = and_parts (distinct same_event s.queue) _ d₁.1 in
       let sound = all_every (is_event_sound library s.taken) s.queue d₁.0 in
       let sound₁ = right_every (λ x. is_numbered s.taken x.origin) _ s.queue sound in
       let sound₂ = right_every (λ x. is_goal x.origin || leb x.kind told_kind) _ s.queue sound₁ in
-      let f₁ = and_parts (all (is_instance library s.made) J) _ f.0 in
+      let f₁ = and_parts (list_all (is_instance library s.made) J) _ f.0 in
       let own = all_every (is_instance library s.made) J f₁.0 in
-      let h₁ = and_parts (all (λ j. any (is_served library j) s.queue) J) _ h.1 in
+      let h₁ = and_parts (list_all (λ j. list_any (is_served library j) s.queue) J) _ h.1 in
       let h₂ = and_parts (distinct same_served J) _ h₁.1 in
-      let h₃ = and_parts (all (has_goal library s.queue) J) _ h₂.1 in
+      let h₃ = and_parts (list_all (has_goal library s.queue) J) _ h₂.1 in
       let ids = distinct_once (λ (j : Job). j.instance.id) eqb eqb-true J f₁.1 in
       let once = distinct_once (λ (x : Event). x.origin) same_origin origin_equal s.queue d₂.0 in
       let posters = all_every (has_goal library s.queue) J h₃.0 in
@@ -220,7 +221,7 @@ module _ (library : Library) (s : AgentState) where
           id_once = ids;
           event_once = once;
           served_once = distinct_once (λ (j : Job). j.event) same_origin origin_equal J h₂.0;
-          served = all_every (λ j. any (is_served library j) s.queue) J h₁.0;
+          served = all_every (λ j. list_any (is_served library j) s.queue) J h₁.0;
           goals = goals_same s.queue J library ids once posters (all_every (has_poster J) s.queue h₃.1);
           posters = posters;
         };

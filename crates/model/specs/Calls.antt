@@ -1,7 +1,7 @@
 -- The calls on any state, the loaded state, refusals, and the idle answer
 -- (document 01, "The three calls", "Who may cause which refusal"; dMARS 8.1, InitdMARSAgentState).
 use Rattle.std.specs.Prelude.{ℕ, Bool, true, false, [], ◌∷◌, eqb}
-use Rattle.lists.specs.Search.{any}
+use Rattle.std.specs.List.{list_any}
 use Rattle.library.specs.Plan.{Library}
 use Rattle.model.specs.declared.Answer.{Answer}
 use Rattle.model.specs.declared.Answer.TheVariants.{Taken, Idle, Dropped, Unmet, MadeExternal, MadeGoal, Stepped, Missed, Done, Posted, Succeeded, Failed, Refused}
@@ -82,6 +82,6 @@ is_idle (Refused number) = false
 
 -- what a call on a well-formed state can be refused with, and 0
 unfoldable pub is_refusal_for : Call → ℕ → Bool
-is_refusal_for (report kind literal) number = any (eqb number) (0 ∷ 5 ∷ 9 ∷ 7 ∷ 6 ∷ [])
-is_refusal_for cycle number = any (eqb number) (0 ∷ 9 ∷ [])
-is_refusal_for (outcome id worked) number = any (eqb number) (0 ∷ 8 ∷ [])
+is_refusal_for (report kind literal) number = list_any (eqb number) (0 ∷ 5 ∷ 9 ∷ 7 ∷ 6 ∷ [])
+is_refusal_for cycle number = list_any (eqb number) (0 ∷ 9 ∷ [])
+is_refusal_for (outcome id worked) number = list_any (eqb number) (0 ∷ 8 ∷ [])

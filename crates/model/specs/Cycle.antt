@@ -1,8 +1,7 @@
 -- Cycle (document 01, "The three calls", Cycle; dMARS 8.1, eventselect and planselect; 8.4, SelectIntention).
 -- Departs from dMARS: the event taken up is the first pending one, where eventselect is the head of the queue; a stack runs while served
 -- events are queued, where SelectIntention asks for an empty queue.
-use Rattle.std.proofs.Math.Option.{Option, none, some}
-use Rattle.std.specs.Prelude.{[], length}
+use Rattle.std.specs.Prelude.{Option, None, Some, [], length}
 use Rattle.lists.specs.Places.{Placed, first}
 use Rattle.library.specs.Plan.{Library}
 use Rattle.situation.specs.Applicable.{Chosen, choose}
@@ -27,9 +26,9 @@ choice_for library s event = choose s.beliefs event.kind event.literal event.fai
 
 -- by the next event and the next stack: the event is taken up; without one the stack runs; nothing to do: idle
 unfoldable pub cycle_by : Library → AgentState → Option (Placed Event) → Option (Placed Intention) → Reply
-cycle_by library s (some event) stack = take_up s event (choice_for library s event.it)
-cycle_by library s none (some stack) = turn library s stack
-cycle_by library s none none = reply Idle [] s
+cycle_by library s (Some event) stack = take_up s event (choice_for library s event.it)
+cycle_by library s None (Some stack) = turn library s stack
+cycle_by library s None None = reply Idle [] s
 
 -- cycle
 unfoldable pub cycled : Library → AgentState → Reply

@@ -1,7 +1,7 @@
 -- Demand 3, as one claim about a whole list of calls, their results and the state after it
 -- (document 00, demand 3; document 01, "The three calls", the paragraph on demand 3).
 use Rattle.std.specs.Prelude.{ℕ, ◌+◌, ◌≤◌, ◌≡◌, Bool, false, not, ◌&&◌, ◌||◌, List, map, eqb, length}
-use Rattle.lists.specs.Search.{any}
+use Rattle.std.specs.List.{list_any}
 use Rattle.lists.specs.Counts.{count, Every}
 use Rattle.literal.specs.declared.Literal.{Literal}
 use Rattle.model.specs.declared.Event.{Event}
@@ -69,12 +69,12 @@ pub record Accounted (h : History) (s : AgentState) : Type 0 where
   -- "Each queued event is pending or served by exactly one live instance"
   pub pending_or_served : Every (λ event. is_pending (live s.stacks) event || is_served_once (live s.stacks) event) s.queue
   -- "An instance's event, for which it was made": "while live it serves that event, in the state too, and the event is queued"
-  pub serves_its_own : Every (λ job. any (same_making (making_of job)) h.made) (live s.stacks)
-  pub served_queued : Every (λ job. any (is_of job.event) s.queue) (live s.stacks)
+  pub serves_its_own : Every (λ job. list_any (same_making (making_of job)) h.made) (live s.stacks)
+  pub served_queued : Every (λ job. list_any (is_of job.event) s.queue) (live s.stacks)
   -- "each suspended instance has exactly one goal in the queue", and no other has one; it "is its last G's"
   pub one_goal_each : (id : ℕ)
       → count (λ event. is_goal_by id event.origin) s.queue ≡ count (λ job. is_asleep job && is_named id job) (live s.stacks)
-  pub goal_is_last : Every (λ job. not (is_asleep job) || any (is_last_goal h.posted job) s.queue) (live s.stacks)
+  pub goal_is_last : Every (λ job. not (is_asleep job) || list_any (is_last_goal h.posted job) s.queue) (live s.stacks)
   -- "No plan is made twice for one event, and no instance tries one branch twice"
   pub plan_once : (origin : Origin) (plan : ℕ) → count (is_for origin plan) h.made ≤ 1
   pub branch_once : (branch : Spot) → count (same_spot branch) h.tries ≤ 1

@@ -1,7 +1,6 @@
 -- Taking up a pending event (document 01, "Cycle", first paragraph; dMARS 8.1, eventselect; 8.3, NewPlanInst and CreatePlanInst).
 -- Departs from dMARS: where no plan applies the event is closed.
-use Rattle.std.specs.Prelude.{ℕ, ◌+◌, cond, List, [], ◌∷◌, ◌++◌, ltb}
-use Rattle.std.proofs.Math.Option.{Option, none, some}
+use Rattle.std.specs.Prelude.{ℕ, ◌+◌, cond, List, [], ◌∷◌, ◌++◌, ltb, Option, None, Some}
 use Rattle.lists.specs.Gap.{remove_at}
 use Rattle.lists.specs.Places.{Placed, first, change_at}
 use Rattle.situation.specs.FailedSet.{size_of}
@@ -61,5 +60,5 @@ close s event (Goal i state branch) =
 
 -- the event is taken up: an instance is made by the plan chosen, or the event is closed
 unfoldable pub take_up : AgentState → Placed Event → Option Chosen → Reply
-take_up s event none = close s event event.it.origin
-take_up s event (some chosen) = cond (ltb s.made most_number) (make s chosen event.it.origin) (refuse 9 s)
+take_up s event None = close s event event.it.origin
+take_up s event (Some chosen) = cond (ltb s.made most_number) (make s chosen event.it.origin) (refuse 9 s)

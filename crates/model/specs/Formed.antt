@@ -1,7 +1,7 @@
 -- The facts of a well-formed state (document 01, "State", "Well formed means"), to be held against the page.
 -- They speak of counts, so that the order of queue and stacks does not matter.
 use Rattle.std.specs.Prelude.{ℕ, ◌^◌, ◌≤◌, ◌<◌, ◌≡◌, true, ◌&&◌, ◌||◌, List, [], ltb, leb, eqb, length, get_or}
-use Rattle.lists.specs.Search.{any}
+use Rattle.std.specs.List.{list_any}
 use Rattle.lists.specs.Counts.{count, Every}
 use Rattle.literal.specs.declared.Literal.{Literal}
 use Rattle.literal.specs.Literal.{is_ground}
@@ -81,7 +81,7 @@ pub record Linked (library : Library) (queue : List Event) (jobs : List Job) : T
   -- "a bottom serves a queued external event, no two the same, each one above it the goal of the one below";
   -- "an instance's trigger kind is its event's, its plan not among the event's failed"
   pub served_once : (origin : Origin) → count (serves origin) jobs ≤ 1
-  pub served : Every (λ job. any (is_served library job) queue) jobs
+  pub served : Every (λ job. list_any (is_served library job) queue) jobs
   -- "the queue has exactly one goal for each suspended instance, of its present state and branch, and no further goals"
   pub goals : (origin : Origin) → count (λ event. is_goal event.origin && is_of origin event) queue ≡ count (is_posted origin) jobs
   -- "a goal's kind and literal are its branch's under the poster's environment"

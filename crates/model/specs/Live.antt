@@ -1,6 +1,6 @@
 -- Which event each live instance serves, and which events are pending (document 01, "State"; dMARS 7.1, Intention; 7.2, Event).
 use Rattle.std.specs.Prelude.{ℕ, Bool, true, false, not, ◌&&◌, ◌||◌, List, [], ◌∷◌, ltb, eqb}
-use Rattle.lists.specs.Search.{any}
+use Rattle.std.specs.List.{list_any}
 use Rattle.lists.specs.Counts.{each}
 use Rattle.model.specs.declared.Event.{Event}
 use Rattle.model.specs.declared.Instance.{Instance}
@@ -66,7 +66,7 @@ serves origin job = same_origin origin job.event
 
 -- an event is pending if no instance serves it
 unfoldable pub is_pending : List Job → Event → Bool
-is_pending jobs event = not (any (serves event.origin) jobs)
+is_pending jobs event = not (list_any (serves event.origin) jobs)
 
 -- a pending event that may be taken up: external ones are passed over while there are 8 stacks
 unfoldable pub is_ready : List Job → ℕ → Event → Bool

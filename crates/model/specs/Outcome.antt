@@ -1,8 +1,7 @@
 -- Outcome (document 01, "The three calls", Outcome; dMARS 8.4.1, BranchExtActionSucceed and BranchExtActionFail).
 -- Departs from dMARS: the outcome comes by a call of its own, and is no second try; it binds nothing, where 8.4.1 composes the action's
 -- bindings into the environment.
-use Rattle.std.specs.Prelude.{ℕ, Bool, true, false, ◌&&◌, [], eqb, set}
-use Rattle.std.proofs.Math.Option.{Option, none, some}
+use Rattle.std.specs.Prelude.{ℕ, Bool, true, false, ◌&&◌, [], eqb, set, Option, None, Some}
 use Rattle.lists.specs.Places.{Placed, first}
 use Rattle.library.specs.Plan.{Library}
 use Rattle.model.specs.declared.Instance.{Instance}
@@ -21,11 +20,11 @@ in_turn s stack x = after s [] s.queue (set s.stacks stack.place (with_top stack
 
 -- 8 for an id not waiting; the waiting instance steps or is missed
 unfoldable pub outcome_by : Library → AgentState → Bool → Option (Placed Intention) → Reply
-outcome_by library s worked none = refuse 8 s
-outcome_by library s true (some stack) =
+outcome_by library s worked None = refuse 8 s
+outcome_by library s true (Some stack) =
     let x = stack.it.top in
     reply (Stepped x.id x.state (last_tried x) (past_branch library x).state) [] (in_turn s stack (past_branch library x))
-outcome_by library s false (some stack) =
+outcome_by library s false (Some stack) =
     let x = stack.it.top in
     reply (Missed x.id x.state (last_tried x)) [] (in_turn s stack (awake x))
 

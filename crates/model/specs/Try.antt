@@ -3,8 +3,7 @@
 -- Departs from dMARS: an external action waits for its outcome, and binds nothing (8.4.1 composes its bindings into the environment);
 -- changes raise no events; a query that no belief answers is posted, as the prose of 4.2 has it (8.4.3 fails it); an achieve that is held
 -- is stepped, as the prose of 8.4.4 has it (its schema posts it).
-use Rattle.std.specs.Prelude.{ℕ, Bool, true, false, cond, not, ◌&&◌, ◌||◌, List, [], ◌∷◌, ◌++◌, ltb, leb, eqb}
-use Rattle.std.proofs.Math.Option.{Option, none, some}
+use Rattle.std.specs.Prelude.{ℕ, Bool, true, false, cond, not, ◌&&◌, ◌||◌, List, [], ◌∷◌, ◌++◌, ltb, leb, eqb, Option, None, Some}
 use Rattle.lists.specs.Gap.{remove_at}
 use Rattle.lists.specs.Places.{Placed}
 use Rattle.literal.specs.declared.Literal.{Literal}
@@ -52,8 +51,8 @@ try_action literal = cond (is_ground literal) (done literal) missed
 
 -- divide: missed if it cannot be done; else stepped with the environment after it, and no belief changes
 unfoldable pub try_divide : Option Env → Try
-try_divide none = missed
-try_divide (some env) = stepped env []
+try_divide None = missed
+try_divide (Some env) = stepped env []
 
 -- ---- Achieve and query (dMARS 8.4.3, 8.4.4): ask the beliefs, then post
 
@@ -61,7 +60,7 @@ try_divide (some env) = stepped env []
 unfoldable pub answer_to : ℕ → List Literal → Env → Literal → Option Env
 answer_to kind beliefs env literal =
     cond (eqb kind achieve_kind)
-    (cond (is_ground (instantiate env literal) && holds beliefs (instantiate env literal)) (some env) none)
+    (cond (is_ground (instantiate env literal) && holds beliefs (instantiate env literal)) (Some env) None)
     (ask beliefs literal env)
 
 -- a goal that is not posted: not ground, a query's opposite held, or a stack of 8
@@ -71,9 +70,9 @@ is_barred kind beliefs height goal =
 
 -- answered: stepped; barred: missed; else posted
 unfoldable pub pursue : Option Env → Bool → Literal → Try
-pursue (some env) barred goal = stepped env []
-pursue none true goal = missed
-pursue none false goal = posted goal
+pursue (Some env) barred goal = stepped env []
+pursue None true goal = missed
+pursue None false goal = posted goal
 
 -- ---- A branch by its kind, with the beliefs, the stack's height and the environment
 

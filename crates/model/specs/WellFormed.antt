@@ -1,7 +1,8 @@
 -- The test for well-formed states (document 01, "State", "Well formed means"), rule by rule.
 -- That the library is accepted is the test of crate library; here it is a value.
 use Rattle.std.specs.Prelude.{ℕ, ◌^◌, Bool, true, not, ◌&&◌, ◌||◌, List, ltb, leb, eqb, length}
-use Rattle.lists.specs.Search.{any, all, distinct}
+use Rattle.std.specs.List.{list_any, list_all}
+use Rattle.lists.specs.Search.{distinct}
 use Rattle.lists.specs.Counts.{count}
 use Rattle.literal.specs.Literal.{is_ground, same}
 use Rattle.literal.specs.Environment.{is_env, instantiate}
@@ -43,7 +44,7 @@ same_event e f = same_origin e.origin f.origin
 -- told apart by origin, at most 32 of them external
 unfoldable pub are_events : Library → ℕ → List Event → Bool
 are_events library taken queue =
-    all (is_event_sound library taken) queue && (distinct same_event queue && leb (count is_external queue) most_external)
+    list_all (is_event_sound library taken) queue && (distinct same_event queue && leb (count is_external queue) most_external)
 
 -- ---- Instances
 
@@ -68,14 +69,14 @@ same_id j k = eqb j.instance.id k.instance.id
 
 -- ids are distinct
 unfoldable pub are_instances : Library → ℕ → List Job → Bool
-are_instances library made jobs = all (is_instance library made) jobs && distinct same_id jobs
+are_instances library made jobs = list_all (is_instance library made) jobs && distinct same_id jobs
 
 -- ---- Stacks
 
 -- all instances below a top are suspended; 1..8 instances; the eighth is not suspended
 unfoldable pub is_stack : Intention → Bool
 is_stack stack =
-    all (λ x. is_suspended x.status) stack.below && (leb (height_of stack) most_height
+    list_all (λ x. is_suspended x.status) stack.below && (leb (height_of stack) most_height
     && not (is_suspended stack.top.status && leb most_height (height_of stack)))
 
 -- ---- Who serves what
@@ -97,7 +98,7 @@ is_goal_for library x event =
 
 -- a suspended instance has its goal in the queue
 unfoldable pub has_goal : Library → List Event → Job → Bool
-has_goal library queue job = not (is_suspended job.instance.status) || any (is_goal_for library job.instance) queue
+has_goal library queue job = not (is_suspended job.instance.status) || list_any (is_goal_for library job.instance) queue
 
 -- the goal is that of this suspended instance
 abbrev pub is_posted : Origin → Job → Bool
@@ -105,13 +106,13 @@ is_posted origin job = is_suspended job.instance.status && same_origin origin (g
 
 -- no further goals: a queued goal is that of some suspended instance
 unfoldable pub has_poster : List Job → Event → Bool
-has_poster jobs event = is_external event || any (is_posted event.origin) jobs
+has_poster jobs event = is_external event || list_any (is_posted event.origin) jobs
 
 -- each instance serves a queued event, no two the same; goals and suspended instances belong together
 unfoldable pub are_served : Library → List Event → List Job → Bool
 are_served library queue jobs =
-    all (λ job. any (is_served library job) queue) jobs && (distinct same_served jobs
-    && (all (has_goal library queue) jobs && all (has_poster jobs) queue))
+    list_all (λ job. list_any (is_served library job) queue) jobs && (distinct same_served jobs
+    && (list_all (has_goal library queue) jobs && list_all (has_poster jobs) queue))
 
 -- ---- The state
 
@@ -119,4 +120,4 @@ unfoldable pub is_well_formed : Library → AgentState → Bool
 is_well_formed library s =
     are_beliefs s.beliefs && (leb s.taken most_number && (leb s.made most_number
     && (are_events library s.taken s.queue && (are_instances library s.made (live s.stacks)
-    && (leb (length s.stacks) most_stacks && (all is_stack s.stacks && are_served library s.queue (live s.stacks)))))))
+    && (leb (length s.stacks) most_stacks && (list_all is_stack s.stacks && are_served library s.queue (live s.stacks)))))))

@@ -1,7 +1,11 @@
 // The agent's data: events, instances and what a call answers. What the calls do is in specs/.
 #![tactic(auto)]
 
+ghost use Rattle.std.specs.Prelude.{◌≡◌, leb};
+ghost use Rattle.model.specs.Report.{told_kind};
+
 use belief::Change;
+use library::kinds::Trigger;
 use literal::{Env, Literal};
 
 // The number of an external event or of an instance, from 1 on.
@@ -20,7 +24,7 @@ pub const MOST_ACTIONS: usize = 4;
 pub const MOST_CHANGES: usize = 8;
 
 // What an event is told apart by: an external number, or a goal's instance, state and branch.
-#[derive(Clone, Copy)]
+#[derive(Clone, Copy, PartialEq, Eq)]
 pub enum Origin {
     External(Number),
     Goal {
@@ -30,15 +34,18 @@ pub enum Origin {
     },
 }
 
-// The kind of an event that was told.
-pub const TOLD: u16 = 2;
+// Whether it is the kind of an event that a device reports: a goal is an event of the agent's own.
+pub fn is_reported(kind: u16) -> bool
+    ensures { result ≡ leb kind told_kind }
+{
+    matches!(
+        Trigger::try_from(kind),
+        Ok(Trigger::Added | Trigger::Removed | Trigger::Told)
+    )
+}
 
-// Kinds of branches: below ACTION they change a belief, above it they pursue a goal, but for library::DIVIDE.
-pub const ACTION: u16 = 2;
-
-pub const ACHIEVE: u16 = 3;
-
-// An event: kind 0 belief added, 1 belief removed, 2 told, 3 achieve, 4 query; the plans that failed for it are the bits of `failed`.
+// An event: its kind is that of a `Trigger`; the plans that failed for it are the bits of `failed`.
+// The kind is a number: any 16 bits can be reported or stand in a state, so a narrower type would ask more of callers.
 #[derive(Clone, Copy)]
 pub struct Event {
     pub origin: Origin,
@@ -48,7 +55,7 @@ pub struct Event {
 }
 
 // An instance runs, waits for an outcome, or is suspended on a goal.
-#[derive(Clone, Copy)]
+#[derive(Clone, Copy, PartialEq, Eq)]
 pub enum Status {
     Active,
     Waiting,
@@ -116,6 +123,7 @@ pub enum Answer {
     },
     Succeeded(Number),
     Failed(Number),
+    // By number, as it is printed; 0 is a line that is no call. A `Refusal` here would ask more of who prints a result.
     Refused(u16),
 }
 

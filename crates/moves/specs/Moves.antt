@@ -43,3 +43,15 @@ abbrev pub made_by : Numbering → ℕ → ℕ
 made_by numbering.Keep made = made
 made_by (numbering.Taken number) made = made
 made_by (numbering.Made number) made = number
+
+abbrev pub renumber : Numbering → State → State
+renumber numbering s =
+    record {
+      beliefs = s.beliefs;
+      queue = s.queue;
+      queued = s.queued;
+      stacks = s.stacks;
+      stacked = s.stacked;
+      taken = taken_by numbering s.taken;
+      made = made_by numbering s.made;
+    }

@@ -1,13 +1,12 @@
 // What a call does to the event queue and to the stacks, told before it is done.
 #![tactic(auto)]
 
-ghost use Rattle.std.specs.Prelude.{◌≡◌};
-ghost use Rattle.moves.specs.Moves.{taken_by, made_by};
+ghost use Rattle.std.specs.Prelude.{◌≡◌, position};
+ghost use Rattle.model.specs.Live.{is_of};
+ghost use Rattle.moves.specs.Moves.{requeue, restack, renumber};
 
 use model::{Event, Number, Origin};
-
-pub mod queue; // the queue's array and count after a move
-pub mod stacks; // the stacks' array and count after a move
+use state::{Stack, State, queue};
 
 // The queue keeps its events; takes one more; loses the one at a place or of an origin; or a plan has failed for the one of an origin.
 #[derive(Clone, Copy)]
@@ -38,24 +37,62 @@ pub enum Numbering {
     Made(Number),
 }
 
-// The number of the last external event taken.
-pub fn taken_after(taken: Number, change: Numbering) -> Number
-    ensures { result ≡ taken_by change taken }
+// The place of the first event of the origin.
+#[tactic(auto, unfolding(model::specs::Live::same_origin))]
+fn place_of(events: &[Event], origin: Origin) -> Option<usize>
+    ensures { result ≡ position (is_of origin) events.now }
 {
-    match change {
-        Numbering::Keep => taken,
-        Numbering::Taken(number) => number,
-        Numbering::Made(_) => taken,
+    events.iter().position(|event| origin == event.origin)
+}
+
+impl QueueMove {
+    // Makes the move on the state's queue.
+    pub fn apply(self, s: &mut State)
+        ensures { s.new ≡ requeue self s.old }
+    {
+        match self {
+            QueueMove::Keep => {}
+            QueueMove::Enqueue(event) => s.enqueue(event),
+            QueueMove::Remove(place) => s.dequeue(place),
+            QueueMove::Close(origin) => {
+                if let Some(place) = place_of(s.events(), origin) {
+                    s.dequeue(place);
+                }
+            }
+            QueueMove::Mark { origin, plan } => {
+                if let Some(place) = place_of(s.events(), origin) {
+                    let failed = queue::with_failure(s.queue[place], plan);
+                    s.put_event(place, failed);
+                }
+            }
+        }
     }
 }
 
-// The number of the last instance made.
-pub fn made_after(made: Number, change: Numbering) -> Number
-    ensures { result ≡ made_by change made }
-{
-    match change {
-        Numbering::Keep => made,
-        Numbering::Taken(_) => made,
-        Numbering::Made(number) => number,
+impl StackMove {
+    // Makes the move on the state's stacks; `stack` is the one that it puts.
+    pub fn apply(self, s: &mut State, stack: Stack)
+        ensures { s.new ≡ restack self stack s.old }
+    {
+        match self {
+            StackMove::Keep => {}
+            StackMove::Open => s.open_last(stack),
+            StackMove::Replace(place) => s.put_at(place, stack),
+            StackMove::Last(place) => s.turn_last(place, stack),
+            StackMove::Remove(place) => s.drop_at(place),
+        }
+    }
+}
+
+impl Numbering {
+    // Puts the number into the state.
+    pub fn apply(self, s: &mut State)
+        ensures { s.new ≡ renumber self s.old }
+    {
+        match self {
+            Numbering::Keep => {}
+            Numbering::Taken(number) => s.taken = number,
+            Numbering::Made(number) => s.made = number,
+        }
     }
 }

@@ -7,7 +7,7 @@ use mathlib.Core.List.{List, [], ◌∷◌, ◌++◌, tail, map, append_assoc}
 use lib.Dec.{eqb, ltb}
 use lib.ListN.{get_or}
 use borrow.Author.Tests.{ne_eqb}
-use Rattle.lists.specs.Search.{all}
+use Rattle.std.specs.List.{list_all}
 use Rattle.lists.specs.Counts.{each}
 use Rattle.lists.proofs.BoolLaws.{by_cases, and_parts, and_both}
 use Rattle.literal.specs.declared.Literal.{Literal}
@@ -130,8 +130,7 @@ newline_starts : get_or (items_text []) 0 0 ≡ 10
 unfolding items_text
 newline_starts = refl
 
-items_injective : (xs ys : List Item) → all fits_item xs ≡ true → all fits_item ys ≡ true → items_text xs ≡ items_text ys → xs ≡ ys
-unfolding all
+items_injective : (xs ys : List Item) → list_all fits_item xs ≡ true → list_all fits_item ys ≡ true → items_text xs ≡ items_text ys → xs ≡ ys
 items_injective [] [] p q same = refl
 items_injective [] (y ∷ ys) p q same = absurd (omega (arith, newline_starts, ap (λ t. get_or t 0 0) same, items-start y ys))
 items_injective (x ∷ xs) [] p q same = absurd (omega (arith, newline_starts, ap (λ t. get_or t 0 0) same, items-start x xs))
@@ -170,8 +169,8 @@ changes_in_lem [] [] = refl
 changes_in_lem [] (c ∷ changes) = ap (λ cs. c ∷ cs) (changes_in_lem [] changes)
 changes_in_lem (f ∷ fields) changes = changes_in_lem fields changes
 
-items_fit : (fields : List Field) (changes : List Change) → all fits_field fields ≡ true → all fits_change changes ≡ true → all fits_item (items_of fields changes) ≡ true
-unfolding items_of all fits_item
+items_fit : (fields : List Field) (changes : List Change) → list_all fits_field fields ≡ true → list_all fits_change changes ≡ true → list_all fits_item (items_of fields changes) ≡ true
+unfolding items_of fits_item
 items_fit [] [] p q = refl
 items_fit [] (c ∷ changes) p q = let b = and_parts (fits_change c) _ q in and_both (fits_change c) _ b.0 (items_fit [] changes p b.1)
 items_fit (f ∷ fields) changes p q = let a = and_parts (fits_field f) _ p in and_both (fits_field f) _ a.0 (items_fit fields changes a.1 q)
@@ -215,8 +214,8 @@ letter_at_lem X = refl
 pub line_injective : (k l : Line) → fits_line k ≡ true → fits_line l ≡ true → line_text k ≡ line_text l → k ≡ l
 unfolding fits_line
 line_injective k l p q same =
-    let a = and_parts (all fits_field k.fields) _ p in
-    let b = and_parts (all fits_field l.fields) _ q in
+    let a = and_parts (list_all fits_field k.fields) _ p in
+    let b = and_parts (list_all fits_field l.fields) _ q in
     let texts = sym (line-items k) ∙ same ∙ line-items l in
     let letters : k.letter ≡ l.letter = sym (letter_at_lem k.letter) ∙ ap (λ t. letter_at (get_or t 0 0)) texts ∙ letter_at_lem l.letter in
     let items = items_injective (items_of k.fields k.changes) (items_of l.fields l.changes)

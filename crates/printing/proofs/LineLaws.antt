@@ -8,7 +8,7 @@ use mathlib.Core.List.{List, [], ◌∷◌, ◌++◌, append_assoc}
 use lib.Dec.{eqb, ltb}
 use lib.ListN.{length}
 use borrow.Author.Tests.{ne_eqb}
-use Rattle.lists.specs.Search.{any}
+use Rattle.std.specs.List.{list_any}
 use Rattle.lists.specs.Counts.{each}
 use Rattle.lists.proofs.BoolLaws.{by_cases, or_parts}
 use Rattle.literal.specs.declared.Literal.{Literal}
@@ -24,19 +24,16 @@ use Rattle.printing.proofs.DecimalLaws.{side, decimal_small, decimal_more}
 -- ---- No newline in a part
 
 abbrev none : List ℕ → Type 0
-none text = any (eqb newline) text ≡ false
+none text = list_any (eqb newline) text ≡ false
 
 none_cons : (b : ℕ) (text : List ℕ) → eqb newline b ≡ false → none text → none (b ∷ text)
-unfolding any
 none_cons b text p q = rw p q
 
 none-joined : (s t : List ℕ) → none s → none t → none (s ++ t)
-unfolding any
 none-joined [] t p q = q
 none-joined (b ∷ s) t p q = let parts = or_parts (eqb newline b) _ p in rw parts.0 (none-joined s t parts.1 q)
 
 none_empty : none []
-unfolding any
 none_empty = refl
 
 none_by : (k n : ℕ) → n < k → none (decimal n)
@@ -60,12 +57,13 @@ none-literal : (l : Literal) → none (literal_text l)
 unfolding literal_text
 none-literal l =
     none-joined (32 ∷ sign_byte l.head ∷ decimal (l.head % negative)) _
-    (none_cons 32 _ refl (none_cons (sign_byte l.head) _ (none_sign l.head) (none-decimal (l.head % negative))))
+    (none_cons 32 (sign_byte l.head ∷ decimal (l.head % negative)) refl
+    (none_cons (sign_byte l.head) (decimal (l.head % negative)) (none_sign l.head) (none-decimal (l.head % negative))))
     (none-joined (number_text l.first) _ (none_number l.first)
     (none-joined (number_text l.second) _ (none_number l.second) (none_number l.third)))
 
 none-field : (f : Field) → none (field_text f)
-unfolding field_text any
+unfolding field_text
 none-field (number n) = none_number n
 none-field e = refl
 none-field g = refl
@@ -77,7 +75,9 @@ none-letter false = refl
 
 none-change : (c : Change) → none (change_text c)
 unfolding change_text
-none-change c = none_cons 32 _ refl (none_cons (change_byte c.removes) _ (none-letter c.removes) (none-literal c.literal))
+none-change c =
+    none_cons 32 (change_byte c.removes ∷ literal_text c.literal) refl
+    (none_cons (change_byte c.removes) (literal_text c.literal) (none-letter c.removes) (none-literal c.literal))
 
 none_each : {A : Type 0} (text : A → List ℕ) → ((x : A) → none (text x)) → (xs : List A) → none (each text xs)
 none_each text part [] = none_empty
@@ -106,7 +106,7 @@ one_newline line = record {
   body = fields ++ changes;
   ends = sym (append_assoc fields changes (newline ∷ []));
   once = none-joined fields changes
-      (none_cons (letter_byte line.letter) _ (none_of line.letter) (none_each field_text none-field line.fields))
+      (none_cons (letter_byte line.letter) (each field_text line.fields) (none_of line.letter) (none_each field_text none-field line.fields))
       (none_each change_text none-change line.changes);
 }
   where

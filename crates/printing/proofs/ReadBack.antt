@@ -8,7 +8,7 @@ use mathlib.Core.List.{List, [], ◌∷◌, ◌++◌, tail, append_assoc}
 use lib.Dec.{leb, eqb, ltb}
 use lib.ListN.{get_or}
 use borrow.Author.Tests.{le-leb, lt-leb, ltb-true, ltb-false}
-use Rattle.lists.specs.Search.{all}
+use Rattle.std.specs.List.{list_all}
 use Rattle.lists.proofs.BoolLaws.{by_cases, and_parts}
 use Rattle.lists.proofs.TestLaws.{all-joined}
 use Rattle.literal.specs.declared.Literal.{Literal}
@@ -44,18 +44,15 @@ back_stop : (s : List ℕ) → Stops s → back s ≡ s
 back_stop [] h = refl
 back_stop (b ∷ s) h = rw (lt-leb 48 b h)
 
-front-digits : (digits s : List ℕ) → all is_digit digits ≡ true → Stops s → front (digits ++ s) ≡ digits
-unfolding all
+front-digits : (digits s : List ℕ) → list_all is_digit digits ≡ true → Stops s → front (digits ++ s) ≡ digits
 front-digits [] s p h = front_stop s h
 front-digits (b ∷ digits) s p h = let parts = and_parts (is_digit b) _ p in rw (parts.0, front-digits digits s parts.1 h)
 
-back_digits : (digits s : List ℕ) → all is_digit digits ≡ true → Stops s → back (digits ++ s) ≡ s
-unfolding all
+back_digits : (digits s : List ℕ) → list_all is_digit digits ≡ true → Stops s → back (digits ++ s) ≡ s
 back_digits [] s p h = back_stop s h
 back_digits (b ∷ digits) s p h = let parts = and_parts (is_digit b) _ p in rw parts.0 (back_digits digits s parts.1 h)
 
-digits_by_lem : (k n : ℕ) → n < k → all is_digit (decimal n) ≡ true
-unfolding all
+digits_by_lem : (k n : ℕ) → n < k → list_all is_digit (decimal n) ≡ true
 digits_by_lem zero n h = absurd (omega arith)
 digits_by_lem (suc k) n h =
     ⊎_elim (λ (big : 10 ≤ n). rw (decimal_more n big)
@@ -63,7 +60,7 @@ digits_by_lem (suc k) n h =
     (λ (small : n < 10). rw (decimal_small n small) (rw (le-leb 48 (48 + n) (omega arith))))
     (side n 10)
 
-digits_of : (n : ℕ) → all is_digit (decimal n) ≡ true
+digits_of : (n : ℕ) → list_all is_digit (decimal n) ≡ true
 digits_of n = digits_by_lem (suc n) n (omega arith)
 
 front_is : (n : ℕ) (s : List ℕ) → Stops s → value (front (decimal n ++ s)) ≡ n

@@ -8,7 +8,7 @@ use mathlib.Core.List.{List, [], ◌∷◌, ◌++◌, append-nil, append_assoc}
 use lib.ListN.{length, take, get_or}
 use lib.Seq.{take-suc}
 use Rattle.lists.specs.Counts.{each}
-use Rattle.lists.specs.Search.{all}
+use Rattle.std.specs.List.{list_all}
 use Rattle.lists.proofs.TestLaws.{all-joined}
 use Rattle.literal.specs.declared.Literal.{Literal}
 use Rattle.belief.specs.declared.Change.{Change}
@@ -101,7 +101,6 @@ pub next_change : {first middle last : List ℕ} {at o p : ℕ} (xs : List Chang
 next_change xs i d h done one = written (sym (one_more xs i d h)) (widen (omega arith) (then done one))
 
 -- and it fits
-pub next_fit : (xs : List Change) (i : ℕ) (d : Change) → i < length xs → all fits_change (take i xs) ≡ true → fits_change (get_or xs i d) ≡ true
-    → all fits_change (take (i + 1) xs) ≡ true
-unfolding all
+pub next_fit : (xs : List Change) (i : ℕ) (d : Change) → i < length xs → list_all fits_change (take i xs) ≡ true → fits_change (get_or xs i d) ≡ true
+    → list_all fits_change (take (i + 1) xs) ≡ true
 next_fit xs i d h before one = rw (add-one, take-suc xs i d h) (all-joined fits_change (take i xs) (get_or xs i d ∷ []) before (rw one))

@@ -1,7 +1,7 @@
 -- The bytes of a line of the journal (document 01, "Journal").
 use Rattle.std.specs.Prelude.{ℕ, ◌+◌, ◌*◌, ◌%◌, ◌≡◌, Bool, true, false, cond, ◌&&◌, List, [], ◌∷◌, ◌++◌, ltb, eqb}
 use Rattle.lists.specs.Counts.{each}
-use Rattle.lists.specs.Search.{any, all}
+use Rattle.std.specs.List.{list_any, list_all}
 use Rattle.literal.specs.declared.Literal.{Literal}
 use Rattle.literal.specs.Literal.{negative}
 use Rattle.belief.specs.declared.Change.{Change}
@@ -83,7 +83,7 @@ pair_text first second = decimal first ++ (number_text second ++ (newline ∷ []
 pub record IsLine (text : List ℕ) : Type 0 where
   pub body : List ℕ
   pub ends : text ≡ body ++ (newline ∷ [])
-  pub once : any (eqb newline) body ≡ false
+  pub once : list_any (eqb newline) body ≡ false
 
 -- ---- Tries
 
@@ -136,7 +136,7 @@ fits_change c = is_head c.literal
 
 -- every literal of the line has a head of 16 bits
 unfoldable pub fits_line : Line → Bool
-fits_line line = all fits_field line.fields && all fits_change line.changes
+fits_line line = list_all fits_field line.fields && list_all fits_change line.changes
 
 abbrev pub fits : Result → Bool
 fits result = fits_line (line_of result)

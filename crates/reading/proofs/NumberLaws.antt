@@ -2,7 +2,7 @@
 use Prim.Native.Nat.{ℕ, suc, ◌+◌, ◌-◌, ◌*◌, ◌^◌, ◌≤◌, ◌<◌}
 use mathlib.Core.Path.{◌≡◌, refl, sym, ap, ◌∙◌}
 use mathlib.Core.Bool.{Bool, true, false, cond, ◌&&◌}
-use mathlib.Core.Option.{Option, none, some}
+use Rattle.std.specs.Prelude.{Option, None, Some}
 use mathlib.Core.List.{List, [], ◌∷◌, ◌++◌, append-nil}
 use native.Mathlib.Nat.{pow-suc, pow-le-pow_right}
 use native.Mathlib.Omega.{arith}
@@ -41,11 +41,11 @@ digit_no_space : (b : ℕ) → is_digit b ≡ true → eqb b 32 ≡ false
 digit_no_space b h = let low = leb-true 48 b (and_parts (leb 48 b) (leb b 57) h).0 in ne_eqb b 32 (λ e. omega arith)
 
 -- digits stand in one field with what follows them
-pub fields-digits : (n value : ℕ) (digits rest : List ℕ) → digits_from n digits ≡ some value → fields (digits ++ rest) ≡ glue digits (fields rest)
+pub fields-digits : (n value : ℕ) (digits rest : List ℕ) → digits_from n digits ≡ Some value → fields (digits ++ rest) ≡ glue digits (fields rest)
 fields-digits n value [] rest e = sym (fields-glue rest)
 fields-digits n value (b ∷ digits) rest e = by (is_digit b) refl e (λ h. fields-digits (n * 10 + (b - 48)) value digits rest h) where
-  by : (t : Bool) → is_digit b ≡ t → cond t (digits_from (n * 10 + (b - 48)) digits) none ≡ some value
-      → (digits_from (n * 10 + (b - 48)) digits ≡ some value → fields (digits ++ rest) ≡ glue digits (fields rest))
+  by : (t : Bool) → is_digit b ≡ t → cond t (digits_from (n * 10 + (b - 48)) digits) None ≡ Some value
+      → (digits_from (n * 10 + (b - 48)) digits ≡ Some value → fields (digits ++ rest) ≡ glue digits (fields rest))
       → fields (b ∷ (digits ++ rest)) ≡ glue (b ∷ digits) (fields rest)
   by true h e further = rw (digit_no_space b h) (ap (on_first b) (further e) ∙ on_first-glue b digits (fields rest))
   by false h e further = none-some e
@@ -53,39 +53,39 @@ fields-digits n value (b ∷ digits) rest e = by (is_digit b) refl e (λ h. fiel
 -- ---- Digits
 
 -- what follows digits is read behind their number
-pub digits_append : (n value : ℕ) (digits rest : List ℕ) → digits_from n digits ≡ some value → digits_from n (digits ++ rest) ≡ digits_from value rest
+pub digits_append : (n value : ℕ) (digits rest : List ℕ) → digits_from n digits ≡ Some value → digits_from n (digits ++ rest) ≡ digits_from value rest
 digits_append n value [] rest e = ap (λ m. digits_from m rest) (some_equal e)
 digits_append n value (b ∷ digits) rest e = by (is_digit b) e (λ h. digits_append (n * 10 + (b - 48)) value digits rest h) where
-  by : (t : Bool) → cond t (digits_from (n * 10 + (b - 48)) digits) none ≡ some value
-      → (digits_from (n * 10 + (b - 48)) digits ≡ some value → digits_from (n * 10 + (b - 48)) (digits ++ rest) ≡ digits_from value rest)
-      → cond t (digits_from (n * 10 + (b - 48)) (digits ++ rest)) none ≡ digits_from value rest
+  by : (t : Bool) → cond t (digits_from (n * 10 + (b - 48)) digits) None ≡ Some value
+      → (digits_from (n * 10 + (b - 48)) digits ≡ Some value → digits_from (n * 10 + (b - 48)) (digits ++ rest) ≡ digits_from value rest)
+      → cond t (digits_from (n * 10 + (b - 48)) (digits ++ rest)) None ≡ digits_from value rest
   by true e further = further e
   by false e further = none-some e
 
 -- ---- Numbers
 
-pub number_of : (width most value : ℕ) (text : List ℕ) → 1 ≤ length text → length text ≤ width → digits_from 0 text ≡ some value
+pub number_of : (width most value : ℕ) (text : List ℕ) → 1 ≤ length text → length text ≤ width → digits_from 0 text ≡ Some value
     → numeral width most text ≡ up_to most value
 unfolding numeral
 number_of width most value text one few e = rw (le-leb 1 _ one, le-leb _ width few, e)
 
-pub number_empty : (width most : ℕ) → numeral width most [] ≡ none
+pub number_empty : (width most : ℕ) → numeral width most [] ≡ None
 unfolding numeral
 number_empty width most = refl
 
-pub number_long : (width most : ℕ) (text : List ℕ) → width < length text → numeral width most text ≡ none
+pub number_long : (width most : ℕ) (text : List ℕ) → width < length text → numeral width most text ≡ None
 unfolding numeral
 number_long width most text h = rw (le-leb 1 (length text) (omega arith), lt-leb (length text) width h)
 
-pub number-wrong : (width most : ℕ) (text : List ℕ) → digits_from 0 text ≡ none → numeral width most text ≡ none
+pub number-wrong : (width most : ℕ) (text : List ℕ) → digits_from 0 text ≡ None → numeral width most text ≡ None
 unfolding numeral
 number-wrong width most text e = by (leb 1 (length text) && leb (length text) width) where
-  by : (t : Bool) → cond t (and_then (digits_from 0 text) (up_to most)) none ≡ none
+  by : (t : Bool) → cond t (and_then (digits_from 0 text) (up_to most)) None ≡ None
   by true = rw e
   by false = refl
 
 -- ---- A number at the start of a line: its digits, and what follows them
-module _ (width most value : ℕ) (digits : List ℕ) (e : digits_from 0 digits ≡ some value) (k : ℕ → List (List ℕ) → Option Call) where
+module _ (width most value : ℕ) (digits : List ℕ) (e : digits_from 0 digits ≡ Some value) (k : ℕ → List (List ℕ) → Option Call) where
   -- the line's end
   pub read_last : field (numeral width most) (fields (digits ++ [])) k ≡ and_then (numeral width most digits) (λ n. k n [])
   read_last = rw (fields-digits 0 value digits [] e, append-nil)
@@ -95,23 +95,23 @@ module _ (width most value : ℕ) (digits : List ℕ) (e : digits_from 0 digits 
   read_more rest = rw (fields-digits 0 value digits (32 ∷ rest) e, append-nil)
 
   -- another byte: a digit too many, or none
-  pub wrong : (b : ℕ) (rest : List ℕ) → (length digits < width → is_digit b ≡ false) → numeral width most (digits ++ (b ∷ rest)) ≡ none
+  pub wrong : (b : ℕ) (rest : List ℕ) → (length digits < width → is_digit b ≡ false) → numeral width most (digits ++ (b ∷ rest)) ≡ None
   wrong b rest stops =
       by_cases (ltb (length digits) width)
       (λ h. number-wrong width most (digits ++ (b ∷ rest)) (digits_append 0 value digits (b ∷ rest) e ∙ rw (stops (ltb-true _ width h))))
       (λ h. number_long width most (digits ++ (b ∷ rest)) (rw length-append (omega (arith, ltb-false (length digits) width h))))
 
   pub read-wrong : (b : ℕ) (rest : List ℕ) → eqb b 32 ≡ false → (length digits < width → is_digit b ≡ false)
-      → field (numeral width most) (fields (digits ++ (b ∷ rest))) k ≡ none
+      → field (numeral width most) (fields (digits ++ (b ∷ rest))) k ≡ None
   read-wrong b rest other stops = rw (fields-digits 0 value digits (b ∷ rest) e, other) (by (fields rest)) where
-    by : (texts : List (List ℕ)) → field (numeral width most) (glue digits (on_first b texts)) k ≡ none
+    by : (texts : List (List ℕ)) → field (numeral width most) (glue digits (on_first b texts)) k ≡ None
     by [] = rw (wrong b [] stops)
     by (text ∷ texts) = rw (wrong b text stops)
 
 -- ---- A loop over digits
 
 -- one digit more
-pub digits_more : (value b : ℕ) (digits : List ℕ) → digits_from 0 digits ≡ some value → 48 ≤ b → b ≤ 57 → digits_from 0 (digits ++ (b ∷ [])) ≡ some (value * 10 + (b - 48))
+pub digits_more : (value b : ℕ) (digits : List ℕ) → digits_from 0 digits ≡ Some value → 48 ≤ b → b ≤ 57 → digits_from 0 (digits ++ (b ∷ [])) ≡ Some (value * 10 + (b - 48))
 digits_more value b digits e low high = digits_append 0 value digits (b ∷ []) e ∙ rw (le-leb 48 b low, le-leb b 57 high)
 
 pub below_digits : (b : ℕ) → b < 48 → is_digit b ≡ false

@@ -1,20 +1,19 @@
 -- Laws of reading by places: what a number at a place says, by the digits found there and the byte after them.
 use Prim.Native.Nat.{ℕ, suc, ◌+◌, ◌-◌, ◌≤◌, ◌<◌}
 use mathlib.Core.Path.{◌≡◌, refl, sym, ap, ◌∙◌}
-use mathlib.Core.Option.{Option, none, some}
+use mathlib.Core.Bool.{true, false}
+use Rattle.std.specs.Prelude.{Option, None, Some}
 use mathlib.Core.List.{List, [], ◌∷◌, ◌++◌}
 use native.Mathlib.Numerals.{add-one}
 use native.Mathlib.Omega.{arith}
 use lib.Dec.{ltb, leb, eqb}
 use lib.ListN.{length, drop, get_or, length-take, length-drop, take-append-drop, drop_of_length-le}
-use lib.Seq.{take-suc, drop-cons, drop-drop, get_or-drop}
+use lib.Seq.{take_all, take-suc, drop-cons, drop-drop, get_or-drop}
 use borrow.Author.Tests.{le-leb, lt-leb, ltb-true, ltb-false, leb-true, leb-false, eqb-true, eqb-false, ne_eqb}
 use Rattle.lists.proofs.BoolLaws.{by_cases}
 use Rattle.literal.specs.Match.{and_then}
 use Rattle.model.specs.State.{Call}
 use Rattle.reading.specs.declared.Digits.{Digits}
-use Rattle.reading.specs.declared.Numeral.{Numeral}
-use Rattle.reading.specs.declared.Numeral.TheVariants as num
 use Rattle.reading.specs.Call.{on_first, fields, up_to, numeral, number, most_digits, largest_predicate, signed, head_of, field}
 use Rattle.reading.specs.Places.{part, left, DigitsAt, after, Reads}
 use Rattle.reading.proofs.NumberLaws.{number_of, number_empty, read_last, read_more, read-wrong}
@@ -35,6 +34,9 @@ pub part-rest : (s : List ℕ) (at i : ℕ) → at ≤ i → drop at s ≡ part 
 part-rest s at i h =
     let m : at + (i - at) ≡ i = omega arith in
     sym (take-append-drop (i - at) (drop at s)) ∙ rw (drop-drop, m)
+
+pub part-all : (s : List ℕ) (at : ℕ) → part s at (length s) ≡ drop at s
+part-all s at = take_all (length s - at) (drop at s) (rw length-drop (omega arith))
 
 pub part_length : (s : List ℕ) (at i : ℕ) → at ≤ i → i ≤ length s → length (part s at i) ≡ i - at
 part_length s at i h g = simp (length-take, length-drop) (omega arith)
@@ -86,7 +88,7 @@ module _ (width : ℕ) (s : List ℕ) (at : ℕ) (r : Digits) (d : DigitsAt widt
         (read_more width most r.value digits d.value k (drop (suc r.stop) s))
 
     -- before another byte
-    pub number_other : r.stop < length s → (get_or s r.stop 0 ≡ 32 → ⊥) → field (numeral width most) (left s at) k ≡ none
+    pub number_other : r.stop < length s → (get_or s r.stop 0 ≡ 32 → ⊥) → field (numeral width most) (left s at) k ≡ None
     number_other g e =
         let h : at ≤ length s = omega (arith, d.from) in
         rw (whole h, drop-cons s r.stop 0 g)
@@ -94,7 +96,7 @@ module _ (width : ℕ) (s : List ℕ) (at : ℕ) (r : Digits) (d : DigitsAt widt
         (λ few. d.stops g (omega (arith, size h))))
 
     -- digits that say no number
-    bad : at ≤ length s → numeral width most digits ≡ none → field (numeral width most) (left s at) k ≡ none
+    bad : at ≤ length s → numeral width most digits ≡ None → field (numeral width most) (left s at) k ≡ None
     bad h e =
         by_cases (ltb r.stop (length s))
         (λ g. by_cases (eqb (get_or s r.stop 0) 32)
@@ -103,7 +105,7 @@ module _ (width : ℕ) (s : List ℕ) (at : ℕ) (r : Digits) (d : DigitsAt widt
         (λ g. last h (ltb-false _ _ g) ∙ rw e)
 
     -- no digit
-    pub number_missing : r.stop ≤ at → field (numeral width most) (left s at) k ≡ none
+    pub number_missing : r.stop ≤ at → field (numeral width most) (left s at) k ≡ None
     number_missing g =
         let e : r.stop ≡ at = omega (arith, d.from) in
         by_cases (leb at (length s))
@@ -111,7 +113,7 @@ module _ (width : ℕ) (s : List ℕ) (at : ℕ) (r : Digits) (d : DigitsAt widt
         (λ h. rw (left_past s at (leb-false _ _ h)))
 
     -- more than so much
-    pub number_over : at < r.stop → most < r.value → field (numeral width most) (left s at) k ≡ none
+    pub number_over : at < r.stop → most < r.value → field (numeral width most) (left s at) k ≡ None
     number_over g over = bad (inside g) (said g ∙ rw (lt-leb _ _ over))
 
     module _ (g : at < r.stop) (fits : r.value ≤ most) where
@@ -125,25 +127,25 @@ module _ (width : ℕ) (s : List ℕ) (at : ℕ) (r : Digits) (d : DigitsAt widt
 
 -- ---- What a reader found
 
-module _ (read : List ℕ → Option ℕ) (most : ℕ) (s : List ℕ) (at : ℕ) (r : Numeral) (f : Reads read most s at r) (k : ℕ → List (List ℕ) → Option Call) where
-  pub goes_on : (value next : ℕ) → r ≡ num.Is value next → field read (left s at) k ≡ k value (left s next)
-  goes_on value next e = f.goes k ∙ ap (λ (x : Numeral). after s x k) e
+module _ (read : List ℕ → Option ℕ) (most : ℕ) (s : List ℕ) (at : ℕ) {r : Option (ℕ × ℕ)} (f : Reads read most s at r) (k : ℕ → List (List ℕ) → Option Call) where
+  pub goes_on : (value next : ℕ) → r ≡ Some (value, next) → field read (left s at) k ≡ k value (left s next)
+  goes_on value next e = f.goes k ∙ ap (λ (x : Option (ℕ × ℕ)). after s x k) e
 
-  pub goes_wrong : r ≡ num.Bad → field read (left s at) k ≡ none
-  goes_wrong e = f.goes k ∙ ap (λ (x : Numeral). after s x k) e
+  pub goes_wrong : r ≡ None → field read (left s at) k ≡ None
+  goes_wrong e = f.goes k ∙ ap (λ (x : Option (ℕ × ℕ)). after s x k) e
 
 -- ---- A sign at a place
 
-field_nothing : {A : Type 0} (read : List ℕ → Option A) (texts : List (List ℕ)) → field read texts (λ x rest. none) ≡ none
+field_nothing : {A : Type 0} (read : List ℕ → Option A) (texts : List (List ℕ)) → field read texts (λ x rest. None) ≡ None
 field_nothing read [] = refl
 field_nothing {A} read (text ∷ texts) = by (read text) where
-  by : (o : Option A) → and_then {B = Call} o (λ x. none) ≡ none
-  by none = refl
-  by (some x) = refl
+  by : (o : Option A) → and_then {B = Call} o (λ x. None) ≡ None
+  by None = refl
+  by (Some x) = refl
 
 and_then_twice : {A B C : Type 0} (o : Option A) (f : A → Option B) (g : B → Option C) → and_then (and_then o f) g ≡ and_then o (λ x. and_then (f x) g)
-and_then_twice none f g = refl
-and_then_twice (some x) f g = refl
+and_then_twice None f g = refl
+and_then_twice (Some x) f g = refl
 
 -- what is read after the number that follows a sign
 abbrev pub after_sign : ℕ → (ℕ → List (List ℕ) → Option Call) → ℕ → List (List ℕ) → Option Call
@@ -163,12 +165,14 @@ module _ (k : ℕ → List (List ℕ) → Option Call) where
       (λ e. rw e (sign_first sign (fields line)))
 
   -- the sign, then the number after it
-  pub sign_then : (s : List ℕ) (at : ℕ) → at < length s
-      → field head_of (left s at) k ≡ field (number largest_predicate) (left s (at + 1)) (after_sign (get_or s at 0) k)
-  sign_then s at h =
-      rw (left_in_lem s at (omega arith), left_in_lem s (at + 1) (omega arith), drop-cons s at 0 h, add-one) (sign_line (get_or s at 0) (drop (suc at) s))
+  pub sign_then : (s : List ℕ) (at sign : ℕ) → true ≡ ltb at (length s) → sign ≡ get_or s at sign
+      → field head_of (left s at) k ≡ field (number largest_predicate) (left s (at + 1)) (after_sign sign k)
+  sign_then s at sign within e =
+      let h = ltb-true at (length s) (sym within) in
+      rw (left_in_lem s at (omega arith), left_in_lem s (at + 1) (omega arith), drop-cons s at sign h, ← e, add-one) (sign_line sign (drop (suc at) s))
 
-  pub sign_missing : (s : List ℕ) (at : ℕ) → length s ≤ at → field head_of (left s at) k ≡ none
+  pub sign_missing : (s : List ℕ) (at : ℕ) → false ≡ ltb at (length s) → field head_of (left s at) k ≡ None
   unfolding head_of
-  sign_missing s at h =
+  sign_missing s at past =
+      let h = ltb-false at (length s) (sym past) in
       by_cases (leb at (length s)) (λ e. rw (e, drop_of_length-le s h)) (λ e. rw e)

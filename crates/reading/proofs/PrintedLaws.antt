@@ -2,7 +2,7 @@
 use Prim.Native.Nat.{ℕ, zero, suc, ◌+◌, ◌/◌, ◌%◌, ◌^◌, ◌≤◌, ◌<◌}
 use mathlib.Core.Path.{◌≡◌, refl, sym, ap, ◌∙◌}
 use mathlib.Core.Bool.{Bool, true, false, cond}
-use mathlib.Core.Option.{Option, none, some}
+use Rattle.std.specs.Prelude.{Option, None, Some}
 use mathlib.Core.List.{List, [], ◌∷◌, ◌++◌, append-nil}
 use native.Mathlib.Nat.{pow-suc}
 use native.Mathlib.Omega.{arith}
@@ -24,14 +24,14 @@ use Rattle.reading.proofs.CallLaws.{letter-only, letter_then, told}
 
 -- ---- The digits of a number
 
-digits_by_lem : (k n : ℕ) → n < k → digits_from 0 (decimal n) ≡ some n
+digits_by_lem : (k n : ℕ) → n < k → digits_from 0 (decimal n) ≡ Some n
 digits_by_lem zero n h = absurd (omega arith)
 digits_by_lem (suc k) n h =
     by_cases (ltb n 10)
-    (λ e. let small = ltb-true n 10 e in rw (decimal_small n small) (digits_more 0 (48 + n) [] refl (omega arith) (omega arith) ∙ ap some (omega arith)))
-    (λ e. let big = ltb-false n 10 e in rw (decimal_more n big) (digits_more (n / 10) (48 + n % 10) (decimal (n / 10)) (digits_by_lem k (n / 10) (omega arith)) (omega arith) (omega arith) ∙ ap some (omega arith)))
+    (λ e. let small = ltb-true n 10 e in rw (decimal_small n small) (digits_more 0 (48 + n) [] refl (omega arith) (omega arith) ∙ ap Some (omega arith)))
+    (λ e. let big = ltb-false n 10 e in rw (decimal_more n big) (digits_more (n / 10) (48 + n % 10) (decimal (n / 10)) (digits_by_lem k (n / 10) (omega arith)) (omega arith) (omega arith) ∙ ap Some (omega arith)))
 
-digits_decimal : (n : ℕ) → digits_from 0 (decimal n) ≡ some n
+digits_decimal : (n : ℕ) → digits_from 0 (decimal n) ≡ Some n
 digits_decimal n = digits_by_lem (suc n) n (omega arith)
 
 -- a number below a power of ten has no more digits
@@ -45,7 +45,7 @@ length-decimal (suc k) n h =
     let fewer = length-decimal k (n / 10) (omega (arith, pow-suc 10 (suc k))) in
     rw (decimal_more n big, length-append) (omega arith, omega arith))
 
-number-decimal : (fewer most n : ℕ) → n ≤ most → n < 10 ^ suc fewer → numeral (suc fewer) most (decimal n) ≡ some n
+number-decimal : (fewer most n : ℕ) → n ≤ most → n < 10 ^ suc fewer → numeral (suc fewer) most (decimal n) ≡ Some n
 number-decimal fewer most n fits short =
     let few = length-decimal fewer n short in
     number_of (suc fewer) most n (decimal n) few.0 few.1 (digits_decimal n) ∙ rw (le-leb n most fits)
@@ -78,13 +78,13 @@ module _ (head : ℕ) (stored : head ≤ largest_number) (k : ℕ → List (List
 
 module _ (kind : ℕ) (l : Literal) (first : l.first ≤ largest_number) (second : l.second ≤ largest_number) (third : l.third ≤ largest_number) where
   printed_terms : terms_of kind l.head (fields (decimal l.first ++ (32 ∷ (decimal l.second ++ (32 ∷ decimal l.third)))))
-      ≡ some (report kind l)
+      ≡ Some (report kind l)
   printed_terms =
       printed_more 4 largest_number l.first first (omega arith) _ (decimal l.second ++ (32 ∷ decimal l.third))
       ∙ printed_more 4 largest_number l.second second (omega arith) _ (decimal l.third)
       ∙ printed_last 4 largest_number l.third third (omega arith) _
 
-  printed_report : kind ≤ largest_number → l.head ≤ largest_number → report_of (fields (decimal kind ++ literal_text l)) ≡ some (report kind l)
+  printed_report : kind ≤ largest_number → l.head ≤ largest_number → report_of (fields (decimal kind ++ literal_text l)) ≡ Some (report kind l)
   unfolding literal_text
   printed_report kinds heads =
       printed_more 4 largest_number kind kinds (omega arith) _ _
@@ -93,14 +93,14 @@ module _ (kind : ℕ) (l : Literal) (first : l.first ≤ largest_number) (second
 
 -- ---- A printed outcome
 
-worked_back : (id : ℕ) (worked : Bool) → told id (cond worked 49 48) [] ≡ some (outcome id worked)
+worked_back : (id : ℕ) (worked : Bool) → told id (cond worked 49 48) [] ≡ Some (outcome id worked)
 worked_back id true = refl
 worked_back id false = refl
 
-told-space : (id : ℕ) (texts : List (List ℕ)) → told id 32 texts ≡ none
+told-space : (id : ℕ) (texts : List (List ℕ)) → told id 32 texts ≡ None
 told-space id texts = refl
 
-printed_outcome : (id : ℕ) (worked : Bool) → id ≤ most_number → outcome_of (fields (decimal id ++ (32 ∷ cond worked 49 48 ∷ []))) ≡ some (outcome id worked)
+printed_outcome : (id : ℕ) (worked : Bool) → id ≤ most_number → outcome_of (fields (decimal id ++ (32 ∷ cond worked 49 48 ∷ []))) ≡ Some (outcome id worked)
 printed_outcome id worked stored =
     printed_more 9 most_number id stored (omega arith) _ (cond worked 49 48 ∷ [])
     ∙ letter-only (told id) (told-space id) (cond worked 49 48)
@@ -108,10 +108,10 @@ printed_outcome id worked stored =
 
 -- ---- A printed call
 
-letter-space : (texts : List (List ℕ)) → by_letter 32 texts ≡ none
+letter-space : (texts : List (List ℕ)) → by_letter 32 texts ≡ None
 letter-space texts = refl
 
-pub reads_back : (call : Call) → is_stored call ≡ true → call_of (call_text call) ≡ some call
+pub reads_back : (call : Call) → is_stored call ≡ true → call_of (call_text call) ≡ Some call
 unfolding call_of call_text is_stored
 reads_back (report kind l) h =
     let p1 = and_parts (leb kind largest_number) _ h in

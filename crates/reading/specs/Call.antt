@@ -1,6 +1,5 @@
 -- What a line of the input says (document 01, "Journal"): one of the three calls, or nothing where it cannot be read.
-use Rattle.std.specs.Prelude.{ℕ, ◌+◌, ◌-◌, ◌*◌, Bool, true, false, cond, ◌&&◌, List, [], ◌∷◌, leb, eqb, length}
-use Rattle.std.proofs.Math.Option.{Option, none, some}
+use Rattle.std.specs.Prelude.{ℕ, ◌+◌, ◌-◌, ◌*◌, Bool, true, false, cond, ◌&&◌, List, [], ◌∷◌, leb, eqb, length, Option, None, Some}
 use Rattle.literal.specs.Literal.{negative}
 use Rattle.literal.specs.Match.{and_then}
 use Rattle.model.specs.State.{most_number, Call, report, cycle, outcome}
@@ -24,15 +23,15 @@ is_digit b = leb 48 b && leb b 57
 
 -- the number that digits say behind those of n; none where one is no digit
 abbrev pub digits_from : ℕ → List ℕ → Option ℕ
-digits_from n [] = some n
-digits_from n (b ∷ bytes) = cond (is_digit b) (digits_from (n * 10 + (b - 48)) bytes) none
+digits_from n [] = Some n
+digits_from n (b ∷ bytes) = cond (is_digit b) (digits_from (n * 10 + (b - 48)) bytes) None
 
 abbrev pub up_to : ℕ → ℕ → Option ℕ
-up_to most n = cond (leb n most) (some n) none
+up_to most n = cond (leb n most) (Some n) None
 
 -- 1 to so many digits that say at most so much
 unfoldable pub numeral : ℕ → ℕ → List ℕ → Option ℕ
-numeral digits most text = cond (leb 1 (length text) && leb (length text) digits) (and_then (digits_from 0 text) (up_to most)) none
+numeral digits most text = cond (leb 1 (length text) && leb (length text) digits) (and_then (digits_from 0 text) (up_to most)) None
 
 -- a kind, a predicate or a term has at most so many digits
 abbrev pub most_digits : ℕ
@@ -59,34 +58,34 @@ largest_predicate = 32767
 
 -- the head of a literal: its predicate with +, or with -
 abbrev pub signed : ℕ → ℕ → Option ℕ
-signed sign predicate = cond (eqb sign 43) (some predicate) (cond (eqb sign 45) (some (predicate + negative)) none)
+signed sign predicate = cond (eqb sign 43) (Some predicate) (cond (eqb sign 45) (Some (predicate + negative)) None)
 
 -- sign and predicate
 unfoldable pub head_of : List ℕ → Option ℕ
-head_of [] = none
+head_of [] = None
 head_of (sign ∷ text) = and_then (number largest_predicate text) (signed sign)
 
 -- one byte
 unfoldable pub letter : List ℕ → Option ℕ
-letter [] = none
-letter (b ∷ []) = some b
-letter (b ∷ c ∷ text) = none
+letter [] = None
+letter (b ∷ []) = Some b
+letter (b ∷ c ∷ text) = None
 
 -- 1: worked; 0: not
 abbrev pub worked_by : ℕ → Option Bool
-worked_by b = cond (eqb b 49) (some true) (cond (eqb b 48) (some false) none)
+worked_by b = cond (eqb b 49) (Some true) (cond (eqb b 48) (Some false) None)
 
 -- ---- Field by field
 
 -- the next field, as a reader of fields takes it, and then the others
 abbrev pub field : {A : Type 0} → (List ℕ → Option A) → List (List ℕ) → (A → List (List ℕ) → Option Call) → Option Call
-field read [] next = none
+field read [] next = None
 field read (text ∷ texts) next = and_then (read text) (λ x. next x texts)
 
 -- no field more
 abbrev pub end : List (List ℕ) → Call → Option Call
-end [] call = some call
-end (text ∷ texts) call = none
+end [] call = Some call
+end (text ∷ texts) call = None
 
 -- three terms, after the kind and the head
 abbrev pub terms_of : ℕ → ℕ → List (List ℕ) → Option Call
@@ -109,7 +108,7 @@ outcome_of texts =
 
 -- by the letter P, C or O
 abbrev pub by_letter : ℕ → List (List ℕ) → Option Call
-by_letter b texts = cond (eqb b 80) (report_of texts) (cond (eqb b 67) (end texts cycle) (cond (eqb b 79) (outcome_of texts) none))
+by_letter b texts = cond (eqb b 80) (report_of texts) (cond (eqb b 67) (end texts cycle) (cond (eqb b 79) (outcome_of texts) None))
 
 -- what a line says; none: it cannot be read
 unfoldable pub call_of : List ℕ → Option Call

@@ -1,6 +1,5 @@
 -- Small cases of lines (document 01, "Journal"), as one table: the line's bytes, and what it says.
-use Rattle.std.specs.Prelude.{ℕ, true, false, List, [], ◌∷◌, ◌++◌, map}
-use Rattle.std.proofs.Math.Option.{Option, none, some}
+use Rattle.std.specs.Prelude.{ℕ, true, false, List, [], ◌∷◌, ◌++◌, map, Option, None, Some}
 use Rattle.model.specs.State.{Call, report, cycle, outcome}
 
 pub record Row : Type 0 where
@@ -8,10 +7,10 @@ pub record Row : Type 0 where
   pub wanted : Option Call
 
 abbrev says : Call → List ℕ → Row
-says call line = record { line = line; wanted = some call }
+says call line = record { line = line; wanted = Some call }
 
 abbrev unreadable : List ℕ → Row
-unreadable line = record { line = line; wanted = none }
+unreadable line = record { line = line; wanted = None }
 
 -- a report by its kind, head and terms
 abbrev reported : ℕ → ℕ → ℕ → ℕ → ℕ → Call

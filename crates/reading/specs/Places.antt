@@ -1,11 +1,8 @@
 -- Reading a line by places in it (document 01, "Journal"): what the parts of the reader promise.
 -- Private vocabulary but for part: no public contract rests on the others.
-use Rattle.std.specs.Prelude.{ℕ, ◌+◌, ◌-◌, ◌≤◌, ◌<◌, ◌≡◌, false, cond, List, [], leb, length, take, drop, get_or}
-use Rattle.std.proofs.Math.Option.{Option, none, some}
+use Rattle.std.specs.Prelude.{ℕ, ◌+◌, ◌-◌, ◌≤◌, ◌<◌, ◌≡◌, false, cond, List, [], leb, length, take, drop, get_or, Option, None, Some, IfSome}
 use Rattle.model.specs.State.{Call}
 use Rattle.reading.specs.declared.Digits.{Digits}
-use Rattle.reading.specs.declared.Numeral.{Numeral}
-use Rattle.reading.specs.declared.Numeral.TheVariants as num
 use Rattle.reading.specs.Call.{fields, is_digit, digits_from, field}
 
 -- the bytes from a place up to another
@@ -22,19 +19,15 @@ pub record DigitsAt (most : ℕ) (s : List ℕ) (at : ℕ) (r : Digits) : Type 0
   pub within : at ≤ length s → r.stop ≤ length s
   pub past : length s ≤ at → r.stop ≡ at
   pub few : r.stop ≤ at + most
-  pub value : digits_from 0 (part s at r.stop) ≡ some r.value
+  pub value : digits_from 0 (part s at r.stop) ≡ Some r.value
   pub stops : r.stop < length s → r.stop < at + most → is_digit (get_or s r.stop 0) ≡ false
 
--- what is read after a number
-abbrev pub after : List ℕ → Numeral → (ℕ → List (List ℕ) → Option Call) → Option Call
-after s (num.Is value next) k = k value (left s next)
-after s num.Bad k = none
-
-abbrev pub value_of : Numeral → ℕ
-value_of (num.Is value next) = value
-value_of num.Bad = 0
+-- what is read after a field's value, from the place where the next field begins
+abbrev pub after : List ℕ → Option (ℕ × ℕ) → (ℕ → List (List ℕ) → Option Call) → Option Call
+after s None k = None
+after s (Some (value, next)) k = k value (left s next)
 
 -- the field at a place, by a reader of fields, whatever is read after it; and what it says is at most so much
-pub record Reads (read : List ℕ → Option ℕ) (most : ℕ) (s : List ℕ) (at : ℕ) (r : Numeral) : Type 0 where
+pub record Reads (read : List ℕ → Option ℕ) (most : ℕ) (s : List ℕ) (at : ℕ) (r : Option (ℕ × ℕ)) : Type 0 where
   pub goes : (k : ℕ → List (List ℕ) → Option Call) → field read (left s at) k ≡ after s r k
-  pub small : value_of r ≤ most
+  pub small : IfSome r (λ found. found.0 ≤ most)

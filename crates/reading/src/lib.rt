@@ -3,14 +3,14 @@
 
 ghost use Rattle.std.specs.Prelude.{◌≡◌, ◌≤◌, length};
 ghost use Rattle.reading.specs.Call.{numeral, number, most_id_digits, largest_number, head_of, terms_of, report_of, outcome_of, call_of};
-ghost use Rattle.reading.specs.Spoken.{meaning, number_in};
+ghost use Rattle.reading.specs.Spoken.{meaning};
 ghost use Rattle.reading.specs.Places.{left, DigitsAt, Reads};
 
-use literal::Literal;
+use literal::{Literal, NEGATIVE};
 use model::{MOST_NUMBER, Number};
 
 // The longest readable line has this many bytes.
-const MOST_LINE: usize = 32;
+pub const MOST_LINE: usize = 32;
 
 // A kind, a predicate or a term has at most this many digits.
 const MOST_DIGITS: usize = 5;
@@ -22,23 +22,13 @@ const LARGEST_NUMBER: u32 = 65535;
 
 const LARGEST_PREDICATE: u32 = 32767;
 
-// What a negative literal's head has above its predicate.
-const NEGATIVE: u32 = 32768;
-
-// What a line says: one of the three calls, or nothing.
+// What a line says, where it can be read: one of the three calls.
+// A report's kind is a number, as the call takes it: the call refuses what names no kind.
 #[derive(Clone, Copy)]
 pub enum Spoken {
     Report { kind: u16, literal: Literal },
     Cycle,
     Outcome { id: Number, worked: bool },
-    Unreadable,
-}
-
-// What a word says: a number, or something else.
-#[derive(Clone, Copy)]
-pub enum Word {
-    Number(u16),
-    Other,
 }
 
 // Digits from a place on: the number that they say, and where they stop.
@@ -48,208 +38,137 @@ struct Digits {
     stop: usize,
 }
 
-// A field that is a number, and where the next field begins: one past the line's end where there is none.
-#[derive(Clone, Copy)]
-enum Numeral {
-    Is(u32, usize),
-    Bad,
-}
-
 // At most so many digits from a place on.
 fn digits_at(s: &[u8], at: usize, most: usize) -> Digits
     requires { most ≤ most_id_digits }
     ensures { DigitsAt most s.now at result }
 {
     let mut value: u64 = 0;
-    let mut i = at;
-    while i < s.len() {
-        if most <= i - at {
-            return Digits {
-                value: value,
-                stop: i,
-            };
+    for i in at..s.len() {
+        if i - at == most || !s[i].is_ascii_digit() {
+            return Digits { value, stop: i };
         }
-        let b = s[i];
-        if b < b'0' {
-            return Digits {
-                value: value,
-                stop: i,
-            };
-        }
-        if b'9' < b {
-            return Digits {
-                value: value,
-                stop: i,
-            };
-        }
-        value = value * 10 + (b - b'0') as u64;
-        i += 1;
+        value = value * 10 + u64::from(s[i] - b'0');
     }
     Digits {
-        value: value,
-        stop: i,
+        value,
+        stop: at.max(s.len()),
     }
 }
 
 // A word of its own, as a number.
-pub fn read_number(word: &[u8]) -> Word
-    ensures { number_in result ≡ number largest_number word.now }
+pub fn read_number(word: &[u8]) -> Option<u16>
+    ensures { result ≡ number largest_number word.now }
 {
     let digits = digits_at(word, 0, MOST_DIGITS);
     let stop = digits.stop;
     if stop == 0 {
-        return Word::Other;
+        return None;
     }
     if stop < word.len() {
-        return Word::Other;
+        return None;
     }
-    if (LARGEST_NUMBER as u64) < digits.value {
-        return Word::Other;
-    }
-    Word::Number(digits.value as u16)
+    u16::try_from(digits.value).ok()
 }
 
-// The field from a place on, as a number of so many digits that say at most so much.
-fn number_at(s: &[u8], at: usize, digits: usize, most: u32) -> Numeral
+// The field from a place on, as a number of so many digits that say at most so much, and where the next field begins: one past the
+// line's end where there is none.
+fn number_at(s: &[u8], at: usize, digits: usize, most: u32) -> Option<(u32, usize)>
     requires { (length s.now ≤ 32) × (digits ≤ most_id_digits) }
     ensures { Reads (numeral digits most) most s.now at result }
 {
     let found = digits_at(s, at, digits);
     let stop = found.stop;
     if stop <= at {
-        return Numeral::Bad;
+        return None;
     }
-    if (most as u64) < found.value {
-        return Numeral::Bad;
+    if u64::from(most) < found.value {
+        return None;
     }
-    if s.len() <= stop {
-        return Numeral::Is(found.value as u32, stop + 1);
+    if stop < s.len() && s[stop] != b' ' {
+        return None;
     }
-    if s[stop] != b' ' {
-        return Numeral::Bad;
-    }
-    Numeral::Is(found.value as u32, stop + 1)
+    Some((found.value as u32, stop + 1))
 }
 
-// The field from a place on, as a sign and a predicate.
-fn head_at(s: &[u8], at: usize) -> Numeral
+// The same, as a kind or a term.
+fn term_at(s: &[u8], at: usize) -> Option<(u16, usize)>
+    requires { length s.now ≤ 32 }
+    ensures { Reads (number largest_number) largest_number s.now at result }
+{
+    let (term, next) = number_at(s, at, MOST_DIGITS, LARGEST_NUMBER)?;
+    Some((term as u16, next))
+}
+
+// The same, as a sign and a predicate.
+fn head_at(s: &[u8], at: usize) -> Option<(u16, usize)>
     requires { length s.now ≤ 32 }
     ensures { Reads head_of largest_number s.now at result }
 {
-    if s.len() <= at {
-        return Numeral::Bad;
+    let sign = *s.get(at)?;
+    let (predicate, next) = number_at(s, at + 1, MOST_DIGITS, LARGEST_PREDICATE)?;
+    match sign {
+        b'+' => Some((predicate as u16, next)),
+        b'-' => Some((predicate as u16 + NEGATIVE, next)),
+        _ => None,
     }
-    let sign = s[at];
-    let Numeral::Is(predicate, next) = number_at(s, at + 1, MOST_DIGITS, LARGEST_PREDICATE) else {
-        return Numeral::Bad;
-    };
-    if sign == b'+' {
-        return Numeral::Is(predicate, next);
-    }
-    if sign == b'-' {
-        return Numeral::Is(predicate + NEGATIVE, next);
-    }
-    Numeral::Bad
 }
 
 // The three terms of a report, from a place on.
-fn terms_at(s: &[u8], at: usize, kind: u16, head: u16) -> Spoken
+#[tactic(auto, using(crate::proofs::CallLaws::end_further))]
+fn terms_at(s: &[u8], at: usize, kind: u16, head: u16) -> Option<Spoken>
     requires { length s.now ≤ 32 }
     ensures { meaning result ≡ terms_of kind head (left s.now at) }
 {
-    let Numeral::Is(first, second_at) = number_at(s, at, MOST_DIGITS, LARGEST_NUMBER) else {
-        return Spoken::Unreadable;
-    };
-    let Numeral::Is(second, third_at) = number_at(s, second_at, MOST_DIGITS, LARGEST_NUMBER) else {
-        return Spoken::Unreadable;
-    };
-    let Numeral::Is(third, next) = number_at(s, third_at, MOST_DIGITS, LARGEST_NUMBER) else {
-        return Spoken::Unreadable;
-    };
+    let (first, second_at) = term_at(s, at)?;
+    let (second, third_at) = term_at(s, second_at)?;
+    let (third, next) = term_at(s, third_at)?;
     if next <= s.len() {
-        return Spoken::Unreadable;
+        return None;
     }
     let literal = Literal {
-        head: head,
-        first: first as u16,
-        second: second as u16,
-        third: third as u16,
+        head,
+        first,
+        second,
+        third,
     };
-    Spoken::Report {
-        kind: kind,
-        literal: literal,
-    }
+    Some(Spoken::Report { kind, literal })
 }
 
 // What stands after P.
-fn report_at(s: &[u8], at: usize) -> Spoken
+fn report_at(s: &[u8], at: usize) -> Option<Spoken>
     requires { length s.now ≤ 32 }
     ensures { meaning result ≡ report_of (left s.now at) }
 {
-    let Numeral::Is(kind, head_place) = number_at(s, at, MOST_DIGITS, LARGEST_NUMBER) else {
-        return Spoken::Unreadable;
-    };
-    let Numeral::Is(head, next) = head_at(s, head_place) else {
-        return Spoken::Unreadable;
-    };
-    terms_at(s, next, kind as u16, head as u16)
+    let (kind, head_place) = term_at(s, at)?;
+    let (head, next) = head_at(s, head_place)?;
+    terms_at(s, next, kind, head)
 }
 
 // What stands after O.
-fn outcome_at(s: &[u8], at: usize) -> Spoken
+fn outcome_at(s: &[u8], at: usize) -> Option<Spoken>
     requires { length s.now ≤ 32 }
     ensures { meaning result ≡ outcome_of (left s.now at) }
 {
-    let Numeral::Is(id, next) = number_at(s, at, MOST_ID_DIGITS, MOST_NUMBER) else {
-        return Spoken::Unreadable;
-    };
-    if s.len() <= next {
-        return Spoken::Unreadable;
+    let (id, next) = number_at(s, at, MOST_ID_DIGITS, MOST_NUMBER)?;
+    match s.get(next..)? {
+        [b'1'] => Some(Spoken::Outcome { id, worked: true }),
+        [b'0'] => Some(Spoken::Outcome { id, worked: false }),
+        _ => None,
     }
-    if next + 1 < s.len() {
-        return Spoken::Unreadable;
-    }
-    let b = s[next];
-    if b == b'1' {
-        return Spoken::Outcome {
-            id: id,
-            worked: true,
-        };
-    }
-    if b == b'0' {
-        return Spoken::Outcome {
-            id: id,
-            worked: false,
-        };
-    }
-    Spoken::Unreadable
 }
 
 // What a line says.
-pub fn read_call(line: &[u8]) -> Spoken
+pub fn read_call(line: &[u8]) -> Option<Spoken>
     ensures { meaning result ≡ call_of line.now }
 {
     if MOST_LINE < line.len() {
-        return Spoken::Unreadable;
+        return None;
     }
-    if line.len() < 1 {
-        return Spoken::Unreadable;
+    match line {
+        [b'C'] => Some(Spoken::Cycle),
+        [b'P', b' ', ..] => report_at(line, 2),
+        [b'O', b' ', ..] => outcome_at(line, 2),
+        _ => None,
     }
-    let b = line[0];
-    if line.len() < 2 {
-        if b == b'C' {
-            return Spoken::Cycle;
-        }
-        return Spoken::Unreadable;
-    }
-    if line[1] != b' ' {
-        return Spoken::Unreadable;
-    }
-    if b == b'P' {
-        return report_at(line, 2);
-    }
-    if b == b'O' {
-        return outcome_at(line, 2);
-    }
-    Spoken::Unreadable
 }

@@ -8,7 +8,7 @@ use native.Mathlib.Nat.{mul-le-mul_right}
 use lib.Dec.{eqb}
 use lib.ListN.{length}
 use borrow.Author.Tests.{eqb-true, not-true}
-use Rattle.lists.specs.Search.{any}
+use Rattle.std.specs.List.{list_any}
 use Rattle.lists.specs.Counts.{bit, total, count, Every}
 use Rattle.lists.proofs.BoolLaws.{by_cases, and_parts}
 use Rattle.lists.proofs.CountLaws.{bit_left, bit_right, bit_every, total-append, total_same, total_le, total-add, total_zero, total_unless, total_swap}
@@ -168,7 +168,7 @@ module _ (library : Library) (r : Small library) (s : AgentState) (w : WellForme
   -- ---- No more is paid than owed
 
   abbrev unserved : Tier → ℕ
-  unserved t = bit (not (any (is_served library t.job) s.queue))
+  unserved t = bit (not (list_any (is_served library t.job) s.queue))
 
   covered_by : (t : Tier) → unsound t + misplaced T t + unserved t ≡ 0
       → spent library t ≤ total (λ e. pick (is_of t.job.event e) (price e)) s.queue
@@ -191,7 +191,7 @@ module _ (library : Library) (r : Small library) (s : AgentState) (w : WellForme
         total-add unsound (misplaced T) T,
         all_sound,
         placed-all T once_all s.stacks [] like w.stacked,
-        jobs-all (λ j. bit (not (any (is_served library j) s.queue))) s.stacks,
+        jobs-all (λ j. bit (not (list_any (is_served library j) s.queue))) s.stacks,
         w.linked.served,
       ) in
       omega (
@@ -230,7 +230,7 @@ module _ (library : Library) (r : Small library) (s : AgentState) (w : WellForme
   unfolding has_poster height
   shared e = go e.origin
     where
-      go : (o : Origin) → bit (not (not (is_goal o) || any (is_posted o) (live s.stacks))) ≡ 0
+      go : (o : Origin) → bit (not (not (is_goal o) || list_any (is_posted o) (live s.stacks))) ≡ 0
           → cost P (height T o) e.failed ≤ pick (not (is_goal o)) (W P 1) + total (λ t. pick (asks o t) (W P (suc t.high))) T
       go (External n) z = omega (arith, ap (λ h. cost P h e.failed) (height_external T n), cost_le P 1 e.failed (omega arith))
       go (Goal a b c) z =

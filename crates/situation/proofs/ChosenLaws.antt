@@ -4,12 +4,12 @@ use native.Mathlib.Nat.{zero-add, add-zero}
 use native.Mathlib.Omega.{arith}
 use mathlib.Core.Path.{◌≡◌, refl, ap, sym, ◌∙◌}
 use mathlib.Core.Bool.{true, false}
-use mathlib.Core.Option.{Option, none, some}
+use Rattle.std.specs.Prelude.{Option, None, Some}
 use mathlib.Core.List.{List, [], ◌∷◌}
 use lib.ListN.{length, get_or}
 use lib.Dec.{eqb}
 use borrow.Author.Tests.{eqb-true, eqb-false, eq-eqb}
-use Rattle.lists.specs.Search.{all}
+use Rattle.std.specs.List.{list_all}
 use Rattle.lists.proofs.BoolLaws.{by_cases}
 use Rattle.lists.proofs.OptionLaws.{some_equal, none-some}
 use Rattle.literal.specs.declared.Literal.{Literal}
@@ -38,8 +38,8 @@ module _ (beliefs : List Literal) (kind : ℕ) (literal : Literal) (failed : ℕ
   pub record FirstAt (from : ℕ) (plans : List Plan) (place : ℕ) (chosen : Chosen) : Type 0 where
     pub exists : place < length plans
     pub number : chosen.plan ≡ from + place
-    pub solved : start_at from plans place ≡ some chosen.env
-    pub earlier : (i : ℕ) → i < place → start_at from plans i ≡ none
+    pub solved : start_at from plans place ≡ Some chosen.env
+    pub earlier : (i : ℕ) → i < place → start_at from plans i ≡ None
 
   module _ (from : ℕ) (plan : Plan) (plans : List Plan) where
     here : start_at from (plan ∷ plans) 0 ≡ plan_start beliefs kind literal failed from plan
@@ -49,19 +49,19 @@ module _ (beliefs : List Literal) (kind : ℕ) (literal : Literal) (failed : ℕ
     next i = let e : from + suc i ≡ suc from + i = omega arith in rw e
 
     -- the plan itself
-    first_here : (env : Env) (chosen : Chosen) → plan_start beliefs kind literal failed from plan ≡ some env → some (record { plan = from; env = env }) ≡ some chosen
+    first_here : (env : Env) (chosen : Chosen) → plan_start beliefs kind literal failed from plan ≡ Some env → Some (record { plan = from; env = env }) ≡ Some chosen
         → FirstAt from (plan ∷ plans) 0 chosen
     first_here env chosen e p =
         let q = some_equal p in
         record {
           exists = omega arith;
           number = omega (arith, ap (λ (c : Chosen). c.plan) q);
-          solved = here ∙ e ∙ ap (λ (c : Chosen). some c.env) q;
+          solved = here ∙ e ∙ ap (λ (c : Chosen). Some c.env) q;
           earlier = λ i h. absurd (omega arith);
         }
 
     -- a later one, where the plan has no solution
-    first_later : (place : ℕ) (chosen : Chosen) → plan_start beliefs kind literal failed from plan ≡ none → FirstAt (suc from) plans place chosen → FirstAt from (plan ∷ plans) (suc place) chosen
+    first_later : (place : ℕ) (chosen : Chosen) → plan_start beliefs kind literal failed from plan ≡ None → FirstAt (suc from) plans place chosen → FirstAt from (plan ∷ plans) (suc place) chosen
     first_later place chosen e first = record {
       exists = omega (arith, first.exists);
       number = omega (arith, first.number);
@@ -69,44 +69,44 @@ module _ (beliefs : List Literal) (kind : ℕ) (literal : Literal) (failed : ℕ
       earlier = before;
     }
       where
-        before : (i : ℕ) → i < suc place → start_at from (plan ∷ plans) i ≡ none
+        before : (i : ℕ) → i < suc place → start_at from (plan ∷ plans) i ≡ None
         before zero h = here ∙ e
         before (suc i) h = next i ∙ first.earlier i (omega arith)
 
-  first_from : (from : ℕ) (plans : List Plan) (chosen : Chosen) → first_chosen (applicable_from beliefs kind literal failed from plans) ≡ some chosen
+  first_from : (from : ℕ) (plans : List Plan) (chosen : Chosen) → first_chosen (applicable_from beliefs kind literal failed from plans) ≡ Some chosen
       → (place : ℕ) × FirstAt from plans place chosen
   unfolding applicable_from
   first_from from [] chosen e = none-some e
   first_from from (plan ∷ plans) chosen e = go (plan_start beliefs kind literal failed from plan) refl (first_from (suc from) plans chosen) e
     where
       go : (start : Option Env) → plan_start beliefs kind literal failed from plan ≡ start
-          → (first_chosen (applicable_from beliefs kind literal failed (suc from) plans) ≡ some chosen → (place : ℕ) × FirstAt (suc from) plans place chosen)
-          → first_chosen (or_next from start (applicable_from beliefs kind literal failed (suc from) plans)) ≡ some chosen
+          → (first_chosen (applicable_from beliefs kind literal failed (suc from) plans) ≡ Some chosen → (place : ℕ) × FirstAt (suc from) plans place chosen)
+          → first_chosen (or_next from start (applicable_from beliefs kind literal failed (suc from) plans)) ≡ Some chosen
           → (place : ℕ) × FirstAt from (plan ∷ plans) place chosen
-      go none p others e = let (place, first) = others e in (suc place, first_later from plan plans place chosen p first)
-      go (some env) p others e = (0, first_here from plan plans env chosen p e)
+      go None p others e = let (place, first) = others e in (suc place, first_later from plan plans place chosen p first)
+      go (Some env) p others e = (0, first_here from plan plans env chosen p e)
 
-  none_from : (from : ℕ) (plans : List Plan) → first_chosen (applicable_from beliefs kind literal failed from plans) ≡ none
-      → (i : ℕ) → i < length plans → start_at from plans i ≡ none
+  none_from : (from : ℕ) (plans : List Plan) → first_chosen (applicable_from beliefs kind literal failed from plans) ≡ None
+      → (i : ℕ) → i < length plans → start_at from plans i ≡ None
   unfolding applicable_from
   none_from from [] e i h = absurd (omega arith)
   none_from from (plan ∷ plans) e i h = go (plan_start beliefs kind literal failed from plan) refl (none_from (suc from) plans) e i h
     where
       go : (start : Option Env) → plan_start beliefs kind literal failed from plan ≡ start
-          → (first_chosen (applicable_from beliefs kind literal failed (suc from) plans) ≡ none → (i : ℕ) → i < length plans → start_at (suc from) plans i ≡ none)
-          → first_chosen (or_next from start (applicable_from beliefs kind literal failed (suc from) plans)) ≡ none
-          → (i : ℕ) → i < suc (length plans) → start_at from (plan ∷ plans) i ≡ none
-      go none p others e zero h = here from plan plans ∙ p
-      go none p others e (suc i) h = next from plan plans i ∙ others e i (omega arith)
-      go (some env) p others e i h = none-some (sym e)
+          → (first_chosen (applicable_from beliefs kind literal failed (suc from) plans) ≡ None → (i : ℕ) → i < length plans → start_at (suc from) plans i ≡ None)
+          → first_chosen (or_next from start (applicable_from beliefs kind literal failed (suc from) plans)) ≡ None
+          → (i : ℕ) → i < suc (length plans) → start_at from (plan ∷ plans) i ≡ None
+      go None p others e zero h = here from plan plans ∙ p
+      go None p others e (suc i) h = next from plan plans i ∙ others e i (omega arith)
+      go (Some env) p others e i h = none-some (sym e)
 
   -- the plan that is chosen is the first in library order that has a solution, with the one that its rule keeps
   pub record First (plans : List Plan) (chosen : Chosen) : Type 0 where
     pub exists : chosen.plan < length plans
-    pub solved : plan_start beliefs kind literal failed chosen.plan (get_or plans chosen.plan no_plan) ≡ some chosen.env
-    pub earlier : (i : ℕ) → i < chosen.plan → plan_start beliefs kind literal failed i (get_or plans i no_plan) ≡ none
+    pub solved : plan_start beliefs kind literal failed chosen.plan (get_or plans chosen.plan no_plan) ≡ Some chosen.env
+    pub earlier : (i : ℕ) → i < chosen.plan → plan_start beliefs kind literal failed i (get_or plans i no_plan) ≡ None
 
-  pub choose-first : (plans : List Plan) (chosen : Chosen) → choose beliefs kind literal failed plans ≡ some chosen → First plans chosen
+  pub choose-first : (plans : List Plan) (chosen : Chosen) → choose beliefs kind literal failed plans ≡ Some chosen → First plans chosen
   unfolding choose
   choose-first plans chosen e =
       let (place, first) = first_from 0 plans chosen e in
@@ -118,14 +118,14 @@ module _ (beliefs : List Literal) (kind : ℕ) (literal : Literal) (failed : ℕ
       }
 
   -- none is chosen only where no plan has a solution
-  pub choose-none : (plans : List Plan) → choose beliefs kind literal failed plans ≡ none
-      → (i : ℕ) → i < length plans → plan_start beliefs kind literal failed i (get_or plans i no_plan) ≡ none
+  pub choose-none : (plans : List Plan) → choose beliefs kind literal failed plans ≡ None
+      → (i : ℕ) → i < length plans → plan_start beliefs kind literal failed i (get_or plans i no_plan) ≡ None
   unfolding choose
   choose-none plans e i h = rw zero-add at (none_from 0 plans e i h)
 
   -- ---- A plan with a solution
 
-  module _ (number : ℕ) (plan : Plan) (env : Env) (e : plan_start beliefs kind literal failed number plan ≡ some env) where
+  module _ (number : ℕ) (plan : Plan) (env : Env) (e : plan_start beliefs kind literal failed number plan ≡ Some env) where
     none_absurd : {P : Type 0} → plan_solutions beliefs kind literal failed number plan ≡ [] → P
     none_absurd p = none-some (no_start beliefs kind literal failed number plan p ∙ e)
 
@@ -141,17 +141,17 @@ module _ (beliefs : List Literal) (kind : ℕ) (literal : Literal) (failed : ℕ
         (λ p. none_absurd (plan_other_kind beliefs kind literal failed number plan chosen_fresh (eqb-false plan.kind kind p)))
 
     -- its trigger matches the event's literal, and its solutions are those of its context from there
-    pub chosen_start : (start : Env) × (triggered plan.trigger literal ≡ some start) × (best_of (rule_of plan) (solutions beliefs plan.context start) ≡ some env)
+    pub chosen_start : (start : Env) × (triggered plan.trigger literal ≡ Some start) × (best_of (rule_of plan) (solutions beliefs plan.context start) ≡ Some env)
     unfolding plan_start
     chosen_start = go (triggered plan.trigger literal) refl
       where
         go : (o : Option Env) → triggered plan.trigger literal ≡ o
-            → (start : Env) × (triggered plan.trigger literal ≡ some start) × (best_of (rule_of plan) (solutions beliefs plan.context start) ≡ some env)
-        go none p = none_absurd (plan-not-triggered beliefs kind literal failed number plan chosen_fresh chosen_kind p)
-        go (some start) p = (start, p, sym (ap (best_of (rule_of plan)) (plan-triggered beliefs kind literal failed number plan chosen_fresh chosen_kind start p)) ∙ e)
+            → (start : Env) × (triggered plan.trigger literal ≡ Some start) × (best_of (rule_of plan) (solutions beliefs plan.context start) ≡ Some env)
+        go None p = none_absurd (plan-not-triggered beliefs kind literal failed number plan chosen_fresh chosen_kind p)
+        go (Some start) p = (start, p, sym (ap (best_of (rule_of plan)) (plan-triggered beliefs kind literal failed number plan chosen_fresh chosen_kind start p)) ∙ e)
 
     -- the solution that it starts with is an environment
-    pub chosen_env : all is_ground beliefs ≡ true → is_ground literal ≡ true → is_env env ≡ true
+    pub chosen_env : list_all is_ground beliefs ≡ true → is_ground literal ≡ true → is_env env ≡ true
     unfolding triggered
     chosen_env beliefs_ground ground =
         let (start, p, q) = chosen_start in
@@ -168,16 +168,16 @@ pub record Apt (kind failed : ℕ) (plans : List Plan) (chosen : Chosen) : Type 
   pub env : is_env chosen.env ≡ true
 
 abbrev pub AptIf : ℕ → ℕ → List Plan → Option Chosen → Type 0
-AptIf kind failed plans none = Unit {0}
-AptIf kind failed plans (some chosen) = Apt kind failed plans chosen
+AptIf kind failed plans None = Unit {0}
+AptIf kind failed plans (Some chosen) = Apt kind failed plans chosen
 
-pub choose_apt : (beliefs : List Literal) → all is_ground beliefs ≡ true → (kind : ℕ) (literal : Literal) (failed : ℕ) (plans : List Plan)
+pub choose_apt : (beliefs : List Literal) → list_all is_ground beliefs ≡ true → (kind : ℕ) (literal : Literal) (failed : ℕ) (plans : List Plan)
     → is_ground literal ≡ true → AptIf kind failed plans (choose beliefs kind literal failed plans)
 choose_apt beliefs ground kind literal failed plans told = go (choose beliefs kind literal failed plans) refl
   where
     go : (o : Option Chosen) → choose beliefs kind literal failed plans ≡ o → AptIf kind failed plans o
-    go none e = tt
-    go (some chosen) e =
+    go None e = tt
+    go (Some chosen) e =
         let first = choose-first beliefs kind literal failed plans chosen e in
         let plan = get_or plans chosen.plan no_plan in
         record {

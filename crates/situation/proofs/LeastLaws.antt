@@ -5,12 +5,12 @@ use Prim.Native.Nat.{ℕ, suc, ◌<◌}
 use native.Mathlib.Omega.{arith}
 use mathlib.Core.Path.{◌≡◌, refl, ap, ◌∙◌}
 use mathlib.Core.Bool.{true, false, not}
-use mathlib.Core.Option.{Option, none, some}
+use Rattle.std.specs.Prelude.{Option, None, Some}
 use mathlib.Core.List.{List, [], ◌∷◌, ◌++◌, foldl, append-nil, append_assoc}
 use lib.ListN.{get_or}
 use lib.Seq.{append_snoc}
 use borrow.Author.Tests.{lt-ltb, ltb-true, ltb-false, eq-eqb, eqb-true, not-true}
-use Rattle.lists.specs.Search.{all}
+use Rattle.std.specs.List.{list_all}
 use Rattle.lists.proofs.AllLaws.{all_weaker}
 use Rattle.lists.proofs.BoolLaws.{by_cases, and_parts, and_both}
 use Rattle.lists.proofs.TestLaws.{all-joined}
@@ -52,7 +52,6 @@ module _ (rule : Rule) where
   -- one more solution
   module _ (seen : List Env) (env best : Env) (h : Least rule seen best) where
     replaced : is_before rule env best ≡ true → Least rule (seen ++ (env ∷ [])) env
-    unfolding all
     replaced p = record {
       earlier = seen;
       later = [];
@@ -64,7 +63,6 @@ module _ (rule : Rule) where
     }
 
     stays : is_before rule env best ≡ false → Least rule (seen ++ (env ∷ [])) best
-    unfolding all
     stays p = record {
       earlier = h.earlier;
       later = h.later ++ (env ∷ []);
@@ -74,9 +72,9 @@ module _ (rule : Rule) where
     }
 
   next : (seen : List Env) (env : Env) (o : Option Env) → Kept rule seen o → Kept rule (seen ++ (env ∷ [])) (consider rule o env)
-  unfolding consider all
-  next seen env none h = record { earlier = []; later = []; place = rw h; less_than_earlier = refl; no_later_less = refl }
-  next seen env (some best) h =
+  unfolding consider
+  next seen env None h = record { earlier = []; later = []; place = rw h; less_than_earlier = refl; no_later_less = refl }
+  next seen env (Some best) h =
       by_cases (is_before rule env best) (λ p. rw p (replaced seen env best h p)) (λ p. rw p (stays seen env best h p))
 
   run : (seen envs : List Env) (o : Option Env) → Kept rule seen o → Kept rule (seen ++ envs) (foldl (consider rule) o envs)
@@ -85,7 +83,7 @@ module _ (rule : Rule) where
 
   pub keeps_least : (envs : List Env) → Kept rule envs (best_of rule envs)
   unfolding best_of
-  keeps_least envs = run [] envs none refl
+  keeps_least envs = run [] envs None refl
 
 -- ---- What is chosen for an event
 
@@ -100,16 +98,16 @@ module _ (beliefs : List Literal) (kind : ℕ) (literal : Literal) (failed : ℕ
   pub chooses_least : (plans : List Plan) → ChoosesLeast beliefs kind literal failed plans (choose beliefs kind literal failed plans)
   chooses_least plans = go (choose beliefs kind literal failed plans) refl
     where
-      unsolved : (number : ℕ) → plan_start beliefs kind literal failed number (get_or plans number no_plan) ≡ none → solutions_of beliefs kind literal failed plans number ≡ []
-      unsolved number e = start-kept number (get_or plans number no_plan) none e
+      unsolved : (number : ℕ) → plan_start beliefs kind literal failed number (get_or plans number no_plan) ≡ None → solutions_of beliefs kind literal failed plans number ≡ []
+      unsolved number e = start-kept number (get_or plans number no_plan) None e
 
       go : (o : Option Chosen) → choose beliefs kind literal failed plans ≡ o → ChoosesLeast beliefs kind literal failed plans o
-      go none e = λ number h. unsolved number (choose-none beliefs kind literal failed plans e number h)
-      go (some chosen) e =
+      go None e = λ number h. unsolved number (choose-none beliefs kind literal failed plans e number h)
+      go (Some chosen) e =
           let first = choose-first beliefs kind literal failed plans chosen e in
           record {
             exists = first.exists;
-            least = start-kept chosen.plan (get_or plans chosen.plan no_plan) (some chosen.env) first.solved;
+            least = start-kept chosen.plan (get_or plans chosen.plan no_plan) (Some chosen.env) first.solved;
             none_before = λ number h. unsolved number (first.earlier number h);
           }
 
@@ -124,24 +122,24 @@ module _ (beliefs : List Literal) (kind : ℕ) (literal : Literal) (failed : ℕ
       ap (λ (least : ℕ). best_of (record { least = least }) envs) (eqb-true plan.least 0 e) ∙ keeps_first envs
 
   -- a library without the mark behaves as before: the first applicable plan is made with its first solution
-  pub unmarked_choice : (plans : List Plan) → all is_unmarked plans ≡ true
+  pub unmarked_choice : (plans : List Plan) → list_all is_unmarked plans ≡ true
       → choose beliefs kind literal failed plans ≡ first_applicable beliefs kind literal failed 0 plans
-  unfolding choose first_of applicable_from first_applicable all
+  unfolding choose first_of applicable_from first_applicable
   unmarked_choice plans h = go 0 plans h
     where
       step : (number : ℕ) (envs : List Env) (others : List Chosen) → first_chosen (or_next number (first_of envs) others) ≡ with_first number envs (first_chosen others)
       step number [] others = refl
       step number (env ∷ envs) others = refl
 
-      go : (number : ℕ) (xs : List Plan) → all is_unmarked xs ≡ true
+      go : (number : ℕ) (xs : List Plan) → list_all is_unmarked xs ≡ true
           → first_chosen (applicable_from beliefs kind literal failed number xs) ≡ first_applicable beliefs kind literal failed number xs
       go number [] h = refl
       go number (plan ∷ xs) h =
-          let parts = and_parts (is_unmarked plan) (all is_unmarked xs) h in
+          let parts = and_parts (is_unmarked plan) (list_all is_unmarked xs) h in
           rw (unmarked_first number plan parts.0, ← go (suc number) xs parts.1) (step number (plan_solutions beliefs kind literal failed number plan) _)
 
 -- which is so for bytes whose triggers' kind fields are below 16
-pub unmarked_library : (bytes : List ℕ) → ((plan : ℕ) → plan < plan_count bytes → u16_at bytes (entry_off bytes plan) < 16) → all is_unmarked (library_of bytes).plans ≡ true
+pub unmarked_library : (bytes : List ℕ) → ((plan : ℕ) → plan < plan_count bytes → u16_at bytes (entry_off bytes plan) < 16) → list_all is_unmarked (library_of bytes).plans ≡ true
 unfolding library_of
 unmarked_library bytes h =
     items-all is_unmarked (plan_of bytes) (plan_count bytes) 0 (λ plan low there. eq-eqb _ 0 (unmarked_field bytes (entry_off bytes plan) (h plan (omega arith))).1)

@@ -2,17 +2,14 @@
 use Prim.Native.Nat.{ℕ, zero, suc, ◌+◌, ◌-◌, ◌*◌, ◌<◌, ◌≤◌}
 use native.Mathlib.Numerals.{add-one, sub-one}
 use native.Mathlib.Omega.{arith}
-use mathlib.Core.Path.{◌≡◌, refl, ap, sym, ◌∙◌}
-use mathlib.Core.Bool.{true, false}
-use mathlib.Core.Option.{Option}
+use mathlib.Core.Path.{◌≡◌, refl}
+use Rattle.std.specs.Prelude.{Option, None, Some}
 use mathlib.Core.List.{List, [], ◌∷◌, foldl, foldl-append}
-use lib.ListN.{length, take, drop, get_or, drop_of_length-le}
-use lib.Seq.{drop-cons, get_or-take, length-take-le}
+use lib.ListN.{length, drop, get_or, drop_of_length-le}
+use lib.Seq.{drop-cons}
 use Rattle.literal.specs.declared.Literal.{Literal}
 use Rattle.literal.specs.declared.Env.{Env}
-use Rattle.literal.specs.declared.Match.{Match}
-use Rattle.literal.specs.Match.{match_literal, answer}
-use Rattle.literal.proofs.MatchSteps.{answer_found, answer-none}
+use Rattle.literal.specs.Match.{match_literal}
 use Rattle.library.specs.Bytes.{u16_at, literal_at, items, rows}
 use Rattle.library.specs.Layout.{situation_at}
 use Rattle.library.proofs.PastEnd.{u16_past}
@@ -36,38 +33,27 @@ module _ (beliefs : List Literal) (bytes : List ℕ) (at n : ℕ) (env : Env) wh
 
 -- ---- The beliefs: what each gives is folded in; the belief at i is looked at next
 
-module _ {B : Type 0} (f : B → Env → B) (l : Literal) (env : Env) (next : Env → List Env) (xs : List Literal) (n : ℕ) (fits : n ≤ length xs) where
-  turn : (d : Literal) (i : ℕ) (best : B) → i < n
-      → foldl f (foldl f best (on_match (match_literal l (get_or xs i d) env) next)) (over_beliefs l env next (drop (i + 1) (take n xs)))
-      ≡ foldl f best (over_beliefs l env next (drop i (take n xs)))
-  unfolding over_beliefs
-  turn d i best h =
-      let p : i < length (take n xs) = rw (length-take-le n xs fits) h in
-      rw (drop-cons (take n xs) i d p, get_or-take n xs i d h, foldl-append, add-one i)
+module _ {B : Type 0} (f : B → Env → B) (l : Literal) (env : Env) (next : Env → List Env) (xs : List Literal) where
+  module _ (d : Literal) (i : ℕ) (best : B) (h : i < length xs) where
+    turn : (o : Option Env) → o ≡ match_literal l (get_or xs i d) env
+        → foldl f (foldl f best (on_match o next)) (over_beliefs l env next (drop (i + 1) xs)) ≡ foldl f best (over_beliefs l env next (drop i xs))
+    unfolding over_beliefs
+    turn o e = rw (e, drop-cons xs i d h, foldl-append, add-one i)
 
-  module _ (d : Literal) (i : ℕ) (best : B) (m : Match) (h : i < n) (e : m ≡ answer env (match_literal l (get_or xs i d) env)) where
     -- it matches
-    pub turn_hit : (after : B) → m.found ≡ true → after ≡ foldl f best (next m.env)
-        → foldl f after (over_beliefs l env next (drop (i + 1) (take n xs))) ≡ foldl f best (over_beliefs l env next (drop i (take n xs)))
-    turn_hit after p y =
-        ap (λ (z : B). foldl f z (over_beliefs l env next (drop (i + 1) (take n xs))))
-        (y ∙ sym (ap (λ (o : Option Env). foldl f best (on_match o next)) (answer_found m env (match_literal l (get_or xs i d) env) e p)))
-        ∙ turn d i best h
+    pub turn_hit : (found : Env) (after : B) → Some found ≡ match_literal l (get_or xs i d) env → after ≡ foldl f best (next found)
+        → foldl f after (over_beliefs l env next (drop (i + 1) xs)) ≡ foldl f best (over_beliefs l env next (drop i xs))
+    turn_hit found after e y = rw y (turn (Some found) e)
 
     -- it does not
-    pub turn-miss : m.found ≡ false
-        → foldl f best (over_beliefs l env next (drop (i + 1) (take n xs))) ≡ foldl f best (over_beliefs l env next (drop i (take n xs)))
-    turn-miss p =
-        ap (λ (z : B). foldl f z (over_beliefs l env next (drop (i + 1) (take n xs))))
-        (sym (ap (λ (o : Option Env). foldl f best (on_match o next)) (answer-none m env (match_literal l (get_or xs i d) env) e p)))
-        ∙ turn d i best h
+    pub turn-miss : None ≡ match_literal l (get_or xs i d) env
+        → foldl f best (over_beliefs l env next (drop (i + 1) xs)) ≡ foldl f best (over_beliefs l env next (drop i xs))
+    turn-miss e = turn None e
 
   -- none is left
-  pub turn_end : (i : ℕ) (best : B) → n ≤ i → foldl f best (over_beliefs l env next (drop i (take n xs))) ≡ best
+  pub turn_end : (i : ℕ) (best : B) → length xs ≤ i → foldl f best (over_beliefs l env next (drop i xs)) ≡ best
   unfolding over_beliefs
-  turn_end i best h =
-      let p : length (take n xs) ≤ i = rw (length-take-le n xs fits) h in
-      rw (drop_of_length-le (take n xs) p)
+  turn_end i best h = rw (drop_of_length-le xs h)
 
 -- ---- The alternatives: one more, and none
 

@@ -2,8 +2,7 @@
 -- (document 01, "Cycle"; document 02, request 12; dMARS 8.2, relplans and applplans; 8.1, planselect).
 -- Departs from dMARS: library order chooses, then the first solution or the least by the plan's mark (request 12); plans that failed for
 -- an event are left out by number, where 8.3 (NewPlanInst) leaves out failed plan instances, for goal events alone.
-use Rattle.std.specs.Prelude.{ℕ, suc, Bool, cond, not, ◌&&◌, List, [], ◌∷◌, eqb}
-use Rattle.std.proofs.Math.Option.{Option, none, some}
+use Rattle.std.specs.Prelude.{ℕ, suc, Bool, cond, not, ◌&&◌, List, [], ◌∷◌, eqb, Option, None, Some}
 use Rattle.literal.specs.declared.Literal.{Literal}
 use Rattle.literal.specs.declared.Env.{Env}
 use Rattle.literal.specs.Environment.{empty_env}
@@ -42,8 +41,8 @@ plan_start beliefs kind literal failed number plan = best_of (rule_of plan) (pla
 
 -- an applicable plan stands before the others
 abbrev pub or_next : ℕ → Option Env → List Chosen → List Chosen
-or_next number none others = others
-or_next number (some env) others = record { plan = number; env = env } ∷ others
+or_next number None others = others
+or_next number (Some env) others = record { plan = number; env = env } ∷ others
 
 -- the applicable plans in library order, from a plan's number on
 unfoldable pub applicable_from : List Literal → ℕ → Literal → ℕ → ℕ → List Plan → List Chosen
@@ -52,8 +51,8 @@ applicable_from beliefs kind literal failed number (plan ∷ plans) =
     or_next number (plan_start beliefs kind literal failed number plan) (applicable_from beliefs kind literal failed (suc number) plans)
 
 abbrev pub first_chosen : List Chosen → Option Chosen
-first_chosen [] = none
-first_chosen (chosen ∷ others) = some chosen
+first_chosen [] = None
+first_chosen (chosen ∷ others) = Some chosen
 
 -- the first applicable plan, with the solution that its rule keeps
 unfoldable pub choose : List Literal → ℕ → Literal → ℕ → List Plan → Option Chosen

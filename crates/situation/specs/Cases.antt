@@ -1,7 +1,6 @@
 -- The small cases 1 to 7 (document 01, "Small cases, held by proof"): each situation's whole list of solutions from the empty environment.
 -- Cases of request 12: which of them is kept.
-use Rattle.std.specs.Prelude.{ℕ, ◌+◌, List, [], ◌∷◌}
-use Rattle.std.proofs.Math.Option.{Option, none, some}
+use Rattle.std.specs.Prelude.{ℕ, ◌+◌, List, [], ◌∷◌, Option, None, Some}
 use Rattle.literal.specs.declared.Literal.{Literal}
 use Rattle.literal.specs.declared.Env.{Env}
 use Rattle.literal.specs.Literal.{first_variable, negative}
@@ -71,15 +70,15 @@ pub record LeastCase : Type 0 where
 abbrev pub least_cases : List LeastCase
 least_cases =
     -- the first; by length the shortest, of equal ones the earlier; by rack the lowest
-    record { least = 0; situation = any_offcut ∷ []; kept = some (values_are 7 1) }
-    ∷ record { least = 1; situation = any_offcut ∷ []; kept = some (values_are 5 2) }
-    ∷ record { least = 2; situation = any_offcut ∷ []; kept = some (values_are 7 1) }
+    record { least = 0; situation = any_offcut ∷ []; kept = Some (values_are 7 1) }
+    ∷ record { least = 1; situation = any_offcut ∷ []; kept = Some (values_are 5 2) }
+    ∷ record { least = 2; situation = any_offcut ∷ []; kept = Some (values_are 7 1) }
     -- V7, which nothing binds: the first
-    ∷ record { least = 8; situation = any_offcut ∷ []; kept = some (values_are 7 1) }
+    ∷ record { least = 8; situation = any_offcut ∷ []; kept = Some (values_are 7 1) }
     -- an unbound length counts above all constants: from the rack of an offcut of 7, or the bolt
-    ∷ record { least = 1; situation = (lit 3 7 v1 ∷ []) ∷ (lit 4 v0 0 ∷ []) ∷ []; kept = some (values_are 65527 v1) }
+    ∷ record { least = 1; situation = (lit 3 7 v1 ∷ []) ∷ (lit 4 v0 0 ∷ []) ∷ []; kept = Some (values_are 65527 v1) }
     -- two unbound racks are equal, though the lengths differ
-    ∷ record { least = 2; situation = (lit 3 v0 2 ∷ []) ∷ (lit 3 v0 1 ∷ []) ∷ []; kept = some (v0_is 5) }
+    ∷ record { least = 2; situation = (lit 3 v0 2 ∷ []) ∷ (lit 3 v0 1 ∷ []) ∷ []; kept = Some (v0_is 5) }
     -- no solution: none
-    ∷ record { least = 1; situation = (lit 5 v0 0 ∷ []) ∷ []; kept = none }
+    ∷ record { least = 1; situation = (lit 5 v0 0 ∷ []) ∷ []; kept = None }
     ∷ []

@@ -1,7 +1,6 @@
 -- The choice, held against every solution in the list (request 12), and the choice of libraries without the mark (document 01, "Cycle").
-use Rattle.std.specs.Prelude.{ℕ, suc, ◌<◌, ◌≡◌, Bool, true, not, List, [], ◌∷◌, ◌++◌, eqb, length, get_or}
-use Rattle.std.proofs.Math.Option.{Option, none, some}
-use Rattle.lists.specs.Search.{all}
+use Rattle.std.specs.Prelude.{ℕ, suc, ◌<◌, ◌≡◌, Bool, true, not, List, [], ◌∷◌, ◌++◌, eqb, length, get_or, Option, None, Some}
+use Rattle.std.specs.List.{list_all}
 use Rattle.literal.specs.declared.Literal.{Literal}
 use Rattle.literal.specs.declared.Env.{Env}
 use Rattle.library.specs.Plan.{Plan, no_plan}
@@ -16,13 +15,13 @@ pub record Least (rule : Rule) (envs : List Env) (best : Env) : Type 0 where
   pub earlier : List Env
   pub later : List Env
   pub place : envs ≡ earlier ++ (best ∷ later)
-  pub less_than_earlier : all (is_before rule best) earlier ≡ true
-  pub no_later_less : all (λ env. not (is_before rule env best)) later ≡ true
+  pub less_than_earlier : list_all (is_before rule best) earlier ≡ true
+  pub no_later_less : list_all (λ env. not (is_before rule env best)) later ≡ true
 
 -- the least is kept, and none only where there is no solution
 abbrev pub Kept : Rule → List Env → Option Env → Type 0
-Kept rule envs none = envs ≡ []
-Kept rule envs (some best) = Least rule envs best
+Kept rule envs None = envs ≡ []
+Kept rule envs (Some best) = Least rule envs best
 
 -- ---- What is chosen for an event
 
@@ -39,8 +38,8 @@ module _ (beliefs : List Literal) (kind : ℕ) (literal : Literal) (failed : ℕ
 
   -- none is chosen only where no plan has a solution
   abbrev pub ChoosesLeast : Option Chosen → Type 0
-  ChoosesLeast none = (number : ℕ) → number < length plans → solutions_of number ≡ []
-  ChoosesLeast (some chosen) = ChosenLeast chosen
+  ChoosesLeast None = (number : ℕ) → number < length plans → solutions_of number ≡ []
+  ChoosesLeast (Some chosen) = ChosenLeast chosen
 
 -- ---- Without the mark
 
@@ -50,11 +49,11 @@ is_unmarked plan = eqb plan.least 0
 -- the plan with its first solution, otherwise what the others give
 abbrev pub with_first : ℕ → List Env → Option Chosen → Option Chosen
 with_first number [] others = others
-with_first number (env ∷ envs) others = some (record { plan = number; env = env })
+with_first number (env ∷ envs) others = Some (record { plan = number; env = env })
 
 -- the first applicable plan with its first solution, from a plan's number on
 unfoldable pub first_applicable : List Literal → ℕ → Literal → ℕ → ℕ → List Plan → Option Chosen
-first_applicable beliefs kind literal failed number [] = none
+first_applicable beliefs kind literal failed number [] = None
 first_applicable beliefs kind literal failed number (plan ∷ plans) =
     with_first number (plan_solutions beliefs kind literal failed number plan)
     (first_applicable beliefs kind literal failed (suc number) plans)

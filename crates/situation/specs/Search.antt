@@ -1,16 +1,10 @@
 -- The search as a fold over the list of solutions (document 01, "Situations"; request 12; dMARS 8.1, substitutionselect).
 -- Departs from dMARS: the choice is made solution by solution, in order, and ends where no later one can change it.
-use Rattle.std.specs.Prelude.{ℕ, zero, suc, Bool, false, cond, ltb, eqb, get_or}
-use Rattle.std.proofs.Math.Option.{Option, none, some}
+use Rattle.std.specs.Prelude.{ℕ, zero, suc, Bool, false, cond, ltb, eqb, get_or, Option, None, Some}
 use mathlib.Core.List.{List, foldl}
 use Rattle.literal.specs.declared.Env.{Env}
-use Rattle.literal.specs.declared.Match.{Match}
 use Rattle.literal.specs.Literal.{first_variable, is_constant}
 use Rattle.situation.specs.declared.Rule.{Rule}
-
--- the solution that an answer of the code holds, if any
-abbrev pub solution_of : Match → Option Env
-solution_of m = cond m.found (some m.env) none
 
 -- ---- Which solution is kept (request 12)
 
@@ -29,13 +23,13 @@ is_before rule env best = ltb (rank_of rule.least env) (rank_of rule.least best)
 
 -- what is kept after one more solution: the lesser, of equal ones the earlier
 unfoldable pub consider : Rule → Option Env → Env → Option Env
-consider rule none env = some env
-consider rule (some best) env = cond (is_before rule env best) (some env) (some best)
+consider rule None env = Some env
+consider rule (Some best) env = cond (is_before rule env best) (Some env) (Some best)
 
 -- no later solution changes what is kept
 unfoldable pub is_settled : Rule → Option Env → Bool
-is_settled rule none = false
-is_settled rule (some best) = eqb rule.least 0
+is_settled rule None = false
+is_settled rule (Some best) = eqb rule.least 0
 
 -- the rule that keeps the first solution
 abbrev pub first_rule : Rule
@@ -43,4 +37,4 @@ first_rule = record { least = 0 }
 
 -- what is kept of a list of solutions
 unfoldable pub best_of : Rule → List Env → Option Env
-best_of rule envs = foldl (consider rule) none envs
+best_of rule envs = foldl (consider rule) None envs

@@ -1,7 +1,7 @@
 -- Solutions of a situation (document 01, "Situations"; dMARS 8.2, dMarsLogCons; 8.1, substitutionselect).
 -- Departs from dMARS: a list in the order of the beliefs, with repeats, not a set.
-use Rattle.std.specs.Prelude.{Bool, true, false, List, [], ◌∷◌, ◌++◌}
-use Rattle.std.proofs.Math.Option.{Option, none, some}
+use Rattle.std.specs.Prelude.{Bool, List, [], ◌∷◌, ◌++◌, Option, None, Some}
+use Rattle.std.specs.Option.{is_some}
 use Rattle.literal.specs.declared.Literal.{Literal}
 use Rattle.literal.specs.declared.Env.{Env}
 use Rattle.literal.specs.Match.{match_literal}
@@ -11,8 +11,8 @@ use Rattle.library.specs.Plan.{Situation}
 
 -- what is to be solved next, from the environment of a match
 abbrev pub on_match : Option Env → (Env → List Env) → List Env
-on_match none next = []
-on_match (some env) next = next env
+on_match None next = []
+on_match (Some env) next = next env
 
 -- for each belief in order that the literal matches, what comes next from the environment so extended
 unfoldable pub over_beliefs : Literal → Env → (Env → List Env) → List Literal → List Env
@@ -33,13 +33,8 @@ solutions beliefs (alternative ∷ rest) env = solve beliefs alternative env ++ 
 
 -- the first of them
 unfoldable pub first_of : List Env → Option Env
-first_of [] = none
-first_of (env ∷ envs) = some env
-
--- there is one
-abbrev pub is_some : Option Env → Bool
-is_some none = false
-is_some (some env) = true
+first_of [] = None
+first_of (env ∷ envs) = Some env
 
 -- the situation holds
 abbrev pub holds_from : List Literal → Situation → Env → Bool

@@ -2,17 +2,14 @@
 ghost use Rattle.std.specs.Prelude.{◌≡◌};
 ghost use Rattle.situation.specs.FailedSet.{has, most_plans, with_plan, size_of, count_below};
 
-// Plan numbers from this one on are in no set.
-const MOST_PLANS: u16 = 32;
+use library::MOST_PLANS;
 
 // Whether the plan is in the set.
+#[tactic(auto, unfolding(crate::specs::FailedSet::has))]
 pub fn has(set: u32, plan: u16) -> bool
     ensures { result ≡ has set plan }
 {
-    if MOST_PLANS <= plan {
-        return false;
-    }
-    (set >> plan) % 2 == 1
+    plan < MOST_PLANS && (set >> plan) % 2 == 1
 }
 
 // The set with one plan more; the set itself where it has the plan, or can have none of its number.
@@ -30,5 +27,5 @@ pub fn size(set: u32) -> u32
     ensures ones { result ≡ size_of set }
     ensures counted { result ≡ count_below set most_plans }
 {
-    u32::count_ones(set)
+    set.count_ones()
 }

@@ -3,281 +3,219 @@
 
 ghost use Rattle.std.specs.Prelude.{◌≡◌, ◌+◌, ◌*◌, ◌<◌, ◌^◌};
 ghost use mathlib.Core.List.{foldl};
-ghost use Rattle.literal.specs.Environment.{empty_env};
-ghost use Rattle.literal.specs.Match.{answer};
 ghost use Rattle.belief.specs.Beliefs.{view};
 ghost use Rattle.library.specs.Bytes.{literal_at, items};
 ghost use Rattle.library.specs.Layout.{situation_at, plan_of, library_of};
 ghost use Rattle.situation.specs.Solutions.{solve, solutions, first_of, holds_from, ask};
-ghost use Rattle.situation.specs.Search.{solution_of, rank_of, is_before, consider, is_settled, best_of};
+ghost use Rattle.situation.specs.Search.{rank_of, is_before, consider, is_settled, best_of};
 ghost use Rattle.situation.specs.Applicable.{triggered, plan_start, choose};
-ghost use Rattle.situation.specs.Selected.{selected, chosen_of};
+ghost use Rattle.situation.specs.Selected.{selected};
 
-use belief::{Beliefs, size_of};
-use library::bytes::{literal_at, u16_at};
+use belief::Beliefs;
+use library::bytes::{LITERAL_BYTES, literal_at, u16_at};
 use library::contents::plan_count;
 use library::plan::{context_offset, trigger, trigger_kind, trigger_least};
-use literal::{Env, FIRST_VARIABLE, Literal, Match, VARIABLES, empty_env, match_literal};
+use literal::{Env, FIRST_VARIABLE, Literal, empty_env, match_literal};
 
 pub mod failed; // the set of an event's failed plans
 
-// A literal takes this many bytes.
-const LITERAL_BYTES: usize = 8;
-
-// The plan that was chosen, by its number.
-#[derive(Clone, Copy)]
-pub enum Choice {
-    Plan(u16),
-    None,
-}
-
-// The choice, and the environment that its instance starts with: the empty one where there is none.
+// The plan that was chosen by its number, and the environment that its instance starts with: the empty one where there is none.
 #[derive(Clone, Copy)]
 pub struct Selected {
-    pub choice: Choice,
+    pub choice: Option<u16>,
     pub env: Env,
 }
 
-// What a search keeps of the solutions: by 0 the first, by v + 1 the first with the least value of Vv.
+// What a search keeps, a number as a trigger in the library has it: by 0 the first solution, by v + 1 the first with the least Vv.
 #[derive(Clone, Copy)]
 pub struct Rule {
     pub least: u16,
 }
 
-// The value by which solutions are compared; unbound counts above all constants.
-fn rank_of(least: u16, env: Env) -> u16
-    ensures { result ≡ rank_of least env }
-{
-    if least == 0 {
-        return 0;
-    }
-    let variable = (least - 1) as usize;
-    if VARIABLES <= variable {
-        return 0;
-    }
-    let term = env.terms[variable];
-    if term < FIRST_VARIABLE {
-        return term;
-    }
-    FIRST_VARIABLE
-}
-
-// Whether a solution has a lesser value than the best so far.
-fn is_before(rule: Rule, env: Env, best: Env) -> bool
-    ensures { result ≡ is_before rule env best }
-{
-    let rank = rank_of(rule.least, env);
-    let least_rank = rank_of(rule.least, best);
-    rank < least_rank
-}
-
-// What the search keeps after one more solution: of equal ones the earlier.
-fn considered(rule: Rule, best: Match, env: Env) -> Match
-    ensures { solution_of result ≡ consider rule (solution_of best) env }
-{
-    if best.found {
-        let kept = best.env;
-        if is_before(rule, env, kept) {
-            return Match {
-                found: true,
-                env: env,
-            };
+impl Rule {
+    // The value by which solutions are compared; unbound counts above all constants.
+    #[tactic(auto, unfolding(crate::specs::Search::rank_of))]
+    fn rank_of(self, env: Env) -> u16
+        ensures { result ≡ rank_of self.least env }
+    {
+        if self.least == 0 {
+            return 0;
         }
-        return best;
+        match env.terms.get(self.least as usize - 1) {
+            Some(term) => (*term).min(FIRST_VARIABLE),
+            None => 0,
+        }
     }
-    Match {
-        found: true,
-        env: env,
+
+    // Whether a solution has a lesser value than the best so far.
+    #[tactic(auto, unfolding(crate::specs::Search::is_before))]
+    fn is_before(self, env: Env, best: Env) -> bool
+        ensures { result ≡ is_before self env best }
+    {
+        self.rank_of(env) < self.rank_of(best)
+    }
+
+    // What the search keeps after one more solution: of equal ones the earlier.
+    #[tactic(auto, unfolding(crate::specs::Search::consider))]
+    fn considered(self, best: Option<Env>, env: Env) -> Option<Env>
+        ensures { result ≡ consider self best env }
+    {
+        match best {
+            Some(kept) if !self.is_before(env, kept) => best,
+            _ => Some(env),
+        }
+    }
+
+    // Whether no later solution changes what is kept.
+    #[tactic(auto, unfolding(crate::specs::Search::is_settled))]
+    fn is_settled(self, best: Option<Env>) -> bool
+        ensures { result ≡ is_settled self best }
+    {
+        best.is_some() && self.least == 0
     }
 }
 
-// Whether no later solution changes what is kept.
-fn is_settled(rule: Rule, best: Match) -> bool
-    ensures { result ≡ is_settled rule (solution_of best) }
-{
-    if best.found {
-        return rule.least == 0;
-    }
-    false
-}
-
-// The search over an alternative, its `remaining` literals at `at`: for each belief that the first one matches, over those after it.
-fn solved(
-    bytes: &[u8],
-    at: usize,
-    remaining: usize,
-    beliefs: Beliefs,
-    env: Env,
-    best: Match,
+// What a search reads, and what it keeps.
+#[derive(Clone, Copy)]
+struct Search<'a> {
+    bytes: &'a [u8],
+    beliefs: &'a [Literal],
     rule: Rule,
-) -> Match
-    requires { at + 8 * remaining < 2 ^ 64 }
-    ensures { solution_of result ≡
-        foldl (consider rule) (solution_of best) (solve (view beliefs) (items (literal_at bytes.now) 8 remaining at) env) }
-{
-    if remaining == 0 {
-        return considered(rule, best, env);
-    }
-    let l = literal_at(bytes, at);
-    let n = size_of(beliefs);
-    let mut next = best;
-    let mut i: usize = 0;
-    while i < n {
-        if is_settled(rule, next) {
-            return next;
-        }
-        let belief = beliefs.items[i];
-        i += 1;
-        let m = match_literal(l, belief, env);
-        if m.found {
-            let extended = m.env;
-            next = solved(
-                bytes,
-                at + LITERAL_BYTES,
-                remaining - 1,
-                beliefs,
-                extended,
-                next,
-                rule,
-            );
-        }
-    }
-    next
 }
 
-// The search over the situation at `at`, its alternatives in order.
-fn searched(bytes: &[u8], at: usize, beliefs: Beliefs, env: Env, rule: Rule) -> Match
-    ensures { solution_of result ≡ best_of rule (solutions (view beliefs) (situation_at bytes.now at) env) }
+impl Search<'_> {
+    // Over an alternative, its `remaining` literals at `at`: for each belief that the first one matches, over those after it.
+    fn solved(&self, at: usize, remaining: usize, env: Env, best: Option<Env>) -> Option<Env>
+        requires { at + 8 * remaining < 2 ^ 64 }
+        ensures { result ≡ foldl (consider self.now.rule) best
+            (solve self.now.beliefs.now (items (literal_at self.now.bytes.now) 8 remaining at) env) }
+    {
+        if remaining == 0 {
+            return self.rule.considered(best, env);
+        }
+        let l = literal_at(self.bytes, at);
+        let mut next = best;
+        for belief in self.beliefs {
+            if self.rule.is_settled(next) {
+                return next;
+            }
+            if let Some(extended) = match_literal(l, *belief, env) {
+                next = self.solved(at + LITERAL_BYTES, remaining - 1, extended, next);
+            }
+        }
+        next
+    }
+
+    // Over the situation at `at`, its alternatives in order.
+    fn searched(&self, at: usize, env: Env) -> Option<Env>
+        ensures { result ≡ best_of self.now.rule (solutions self.now.beliefs.now (situation_at self.now.bytes.now at) env) }
+    {
+        if self.bytes.len() <= at {
+            return None;
+        }
+        let mut best = None;
+        let mut p = at + 2;
+        for _i in 0..u16_at(self.bytes, at) {
+            if self.rule.is_settled(best) {
+                return best;
+            }
+            let n = u16_at(self.bytes, p) as usize;
+            best = self.solved(p + 2, n, env, best);
+            p = p + 2 + LITERAL_BYTES * n;
+        }
+        best
+    }
+}
+
+// The first solution of the situation at `at`.
+#[tactic(auto, using(crate::proofs::KeepLaws::keeps_first))]
+pub fn first_solution(bytes: &[u8], at: usize, beliefs: Beliefs, env: Env) -> Option<Env>
+    ensures { result ≡ first_of (solutions (view beliefs) (situation_at bytes.now at) env) }
 {
-    let mut best = Match {
-        found: false,
-        env: env,
+    let search = Search {
+        bytes,
+        beliefs: beliefs.as_slice(),
+        rule: Rule { least: 0 },
     };
-    if bytes.len() <= at {
-        return best;
-    }
-    let mut left = u16_at(bytes, at);
-    let mut p = at + 2;
-    while 0 < left {
-        if is_settled(rule, best) {
-            return best;
-        }
-        let n = u16_at(bytes, p) as usize;
-        best = solved(bytes, p + 2, n, beliefs, env, best, rule);
-        p = p + 2 + LITERAL_BYTES * n;
-        left -= 1;
-    }
-    best
-}
-
-// The first solution of the situation at `at`; the environment given where there is none.
-pub fn first_solution(bytes: &[u8], at: usize, beliefs: Beliefs, env: Env) -> Match
-    ensures { result ≡ answer env (first_of (solutions (view beliefs) (situation_at bytes.now at) env)) }
-{
-    let first = Rule { least: 0 };
-    let best = searched(bytes, at, beliefs, env, first);
-    if best.found {
-        return best;
-    }
-    Match {
-        found: false,
-        env: env,
-    }
+    search.searched(at, env)
 }
 
 // Whether the situation at `at` holds; nothing is bound.
 pub fn holds(bytes: &[u8], at: usize, beliefs: Beliefs, env: Env) -> bool
     ensures { result ≡ holds_from (view beliefs) (situation_at bytes.now at) env }
 {
-    let first = first_solution(bytes, at, beliefs, env);
-    first.found
+    first_solution(bytes, at, beliefs, env).is_some()
 }
 
-// The first belief that the literal matches binds; the environment given where there is none.
-pub fn ask(beliefs: Beliefs, l: Literal, env: Env) -> Match
-    ensures { result ≡ answer env (ask (view beliefs) l env) }
+// The first belief that the literal matches binds.
+pub fn ask(beliefs: Beliefs, l: Literal, env: Env) -> Option<Env>
+    ensures { result ≡ ask (view beliefs) l env }
 {
-    let n = size_of(beliefs);
-    let mut place: usize = 0;
-    while place < n {
-        let belief = beliefs.items[place];
-        place += 1;
-        let m = match_literal(l, belief, env);
-        if m.found {
-            return m;
+    for belief in beliefs.as_slice() {
+        if let Some(next) = match_literal(l, *belief, env) {
+            return Some(next);
         }
     }
-    Match {
-        found: false,
-        env: env,
-    }
+    None
 }
 
 // Matching a trigger against an event's literal, from the empty environment.
-fn triggered_by(trigger: Literal, l: Literal) -> Match
-    ensures { result ≡ answer empty_env (triggered trigger l) }
+#[tactic(auto, unfolding(crate::specs::Applicable::triggered))]
+fn triggered_by(trigger: Literal, l: Literal) -> Option<Env>
+    ensures { result ≡ triggered trigger l }
 {
-    let empty = empty_env();
-    match_literal(trigger, l, empty)
+    match_literal(trigger, l, empty_env())
 }
 
 // The solution of a plan's context with which its instance would start; none where it has failed, is of another kind or is not triggered.
+#[tactic(auto, unfolding(crate::specs::Applicable::plan_start, crate::specs::Applicable::plan_solutions))]
 fn plan_solution(
     bytes: &[u8],
     number: u16,
-    beliefs: Beliefs,
+    beliefs: &[Literal],
     kind: u16,
     l: Literal,
     failed: u32,
-) -> Match
-    ensures { solution_of result ≡
-        plan_start (view beliefs) kind l failed number (plan_of bytes.now number) }
+) -> Option<Env>
+    ensures { result ≡
+        plan_start beliefs.now kind l failed number (plan_of bytes.now number) }
 {
-    let empty = empty_env();
-    let none = Match {
-        found: false,
-        env: empty,
-    };
     if failed::has(failed, number) {
-        return none;
+        return None;
     }
     let plan = number as usize;
     if trigger_kind(bytes, plan) != kind {
-        return none;
+        return None;
     }
     let own = trigger(bytes, plan);
-    let start = triggered_by(own, l);
-    if !start.found {
-        return none;
-    }
-    let env = start.env;
-    let least = trigger_least(bytes, plan);
-    let rule = Rule { least: least };
+    let env = triggered_by(own, l)?;
+    let rule = Rule {
+        least: trigger_least(bytes, plan),
+    };
+    let search = Search {
+        bytes,
+        beliefs,
+        rule,
+    };
     let context = context_offset(bytes, plan);
-    searched(bytes, context, beliefs, env, rule)
+    search.searched(context, env)
 }
 
 // The first applicable plan in library order, with the solution that its rule keeps.
 pub fn choose_plan(bytes: &[u8], beliefs: Beliefs, kind: u16, l: Literal, failed: u32) -> Selected
-    ensures choice { chosen_of result ≡ choose (view beliefs) kind l failed (library_of bytes.now).plans }
-    ensures whole { result ≡ selected (chosen_of result) }
+    ensures { result ≡ selected (choose (view beliefs) kind l failed (library_of bytes.now).plans) }
 {
-    let count = plan_count(bytes);
-    let mut number: u16 = 0;
-    while number < count {
-        let m = plan_solution(bytes, number, beliefs, kind, l, failed);
-        if m.found {
-            let env = m.env;
+    let held = beliefs.as_slice();
+    for number in 0..plan_count(bytes) {
+        if let Some(env) = plan_solution(bytes, number, held, kind, l, failed) {
             return Selected {
-                choice: Choice::Plan(number),
-                env: env,
+                choice: Some(number),
+                env,
             };
         }
-        number += 1;
     }
-    let empty = empty_env();
     Selected {
-        choice: Choice::None,
-        env: empty,
+        choice: None,
+        env: empty_env(),
     }
 }

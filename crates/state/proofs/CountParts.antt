@@ -5,7 +5,7 @@ use mathlib.Core.Bool.{Bool, true}
 use lib.ListN.{take}
 use lib.Dec.{leb}
 use borrow.Author.Tests.{le-leb, leb-true}
-use Rattle.lists.specs.Search.{all}
+use Rattle.std.specs.List.{list_all}
 use Rattle.lists.proofs.BoolLaws.{and_parts, and_both}
 use Rattle.belief.specs.Beliefs.{most_beliefs}
 use Rattle.model.specs.State.{most_stacks, most_queued}
@@ -20,7 +20,7 @@ pub record Counts (s : State) : Type 0 where
   pub beliefs : s.beliefs.count ≤ 64
   pub queued : s.queued ≤ 88
   pub stacked : s.stacked ≤ 8
-  pub depths : all is_shallow (take (stacked_of s) s.stacks) ≡ true
+  pub depths : list_all is_shallow (take (stacked_of s) s.stacks) ≡ true
 
 pub counts-parts : (s : State) → counts_fit s ≡ true → Counts s
 unfolding counts_fit

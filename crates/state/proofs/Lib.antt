@@ -1,4 +1,3 @@
-pub mod StackSteps
 pub mod ViewLaws
 pub mod SearchSteps
 pub mod QueueLaws

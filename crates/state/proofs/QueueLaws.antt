@@ -1,12 +1,12 @@
 -- What the queue's changes mean in the view.
-use Prim.Native.Nat.{ℕ, suc, ◌+◌, ◌-◌, ◌<◌, min}
+use Prim.Native.Nat.{ℕ, suc, ◌+◌, ◌-◌, ◌<◌, ◌≤◌, min}
 use native.Mathlib.Omega.{arith}
 use mathlib.Core.Path.{◌≡◌, sym}
 use mathlib.Core.List.{[], ◌∷◌, ◌++◌}
 use lib.ListN.{length, set}
 use lib.Seq.{take-suc-set, take-set-lt, set_out}
 use lib.Dec.{ltb}
-use borrow.Author.Tests.{lt-ltb, ltb-true, ltb-false}
+use borrow.Author.Tests.{lt-ltb, le-ltb, ltb-true, ltb-false}
 use Rattle.lists.specs.Gap.{remove_at}
 use Rattle.lists.proofs.BoolLaws.{by_cases}
 use Rattle.lists.proofs.GapLaws.{gap_take, remove_at-past}
@@ -40,3 +40,13 @@ module _ (s : State) (len : length s.queue ≡ 88) where
   put_event-view place event = by_cases (ltb place (queued_of s))
       (λ h. rw h (take-set-lt (queued_of s) s.queue place event (ltb-true place (queued_of s) h)))
       (λ h. rw h (sym (set_out (view_queue s) place event (omega (arith, length_queue s len, ltb-false place (queued_of s) h)))))
+
+-- where no event stands nothing changes
+module _ (s : State) (place : ℕ) (past : queued_of s ≤ place) where
+  pub dequeue_past : s ≡ dequeue s place
+  unfolding dequeue
+  dequeue_past = rw (le-ltb place (queued_of s) past)
+
+  pub put_event_past : (event : Event) → s ≡ put_event s place event
+  unfolding put_event
+  put_event_past event = rw (le-ltb place (queued_of s) past)

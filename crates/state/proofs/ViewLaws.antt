@@ -6,7 +6,7 @@ use mathlib.Core.Bool.{Bool, true, false, ◌||◌, or_assoc, or-false, or_comm}
 use mathlib.Core.List.{List, [], ◌∷◌, ◌++◌, map}
 use lib.ListN.{length, take, get_or, length-take, length-map, get_or-map}
 use lib.Seq.{take-suc, get_or-take}
-use Rattle.lists.specs.Search.{any, position}
+use Rattle.std.specs.List.{list_any}
 use Rattle.model.specs.declared.Instance.{Instance}
 use Rattle.model.specs.declared.Origin.{Origin}
 use Rattle.model.specs.declared.Origin.TheVariants.{External}
@@ -28,39 +28,32 @@ length-stacks s h = length-map (take (stacked_of s) s.stacks) view_stack ∙ len
 -- ---- Tests on lists
 
 module _ {A : Type 0} (test : A → Bool) where
-  pub any-joined : (xs ys : List A) → any test (xs ++ ys) ≡ (any test xs || any test ys)
-  unfolding any
+  pub any-joined : (xs ys : List A) → list_any test (xs ++ ys) ≡ (list_any test xs || list_any test ys)
   any-joined [] ys = refl
-  any-joined (x ∷ xs) ys = ap (λ (b : Bool). test x || b) (any-joined xs ys) ∙ sym (or_assoc (test x) (any test xs) (any test ys))
-
--- the place of the first element for which a function gives one that passes
-pub position-mapped : {A B : Type 0} (f : A → B) (test : B → Bool) (xs : List A) → position test (map f xs) ≡ position (λ x. test (f x)) xs
-unfolding position
-position-mapped f test [] = refl
-position-mapped f test (x ∷ xs) = rw (position-mapped f test xs)
+  any-joined (x ∷ xs) ys = ap (λ (b : Bool). test x || b) (any-joined xs ys) ∙ sym (or_assoc (test x) (list_any test xs) (list_any test ys))
 
 -- ---- Instances below a top
 
 -- the same instances, in the other order
-pub any-down : (test : Instance → Bool) (n : ℕ) (xs : List Instance) → n ≤ length xs → any test (down n xs) ≡ any test (take n xs)
-unfolding any down
+pub any-down : (test : Instance → Bool) (n : ℕ) (xs : List Instance) → n ≤ length xs → list_any test (down n xs) ≡ list_any test (take n xs)
+unfolding down
 any-down test zero xs h = refl
 any-down test (suc n) xs h =
     ap (λ (b : Bool). test (get_or xs n no_instance) || b) (any-down test n xs (omega arith))
-    ∙ or_comm (test (get_or xs n no_instance)) (any test (take n xs))
-    ∙ sym (ap (any test) (take-suc xs n no_instance (omega arith)) ∙ any-joined test (take n xs) (get_or xs n no_instance ∷ [])
-    ∙ ap (λ (b : Bool). any test (take n xs) || b) (or-false (test (get_or xs n no_instance))))
+    ∙ or_comm (test (get_or xs n no_instance)) (list_any test (take n xs))
+    ∙ sym (ap (list_any test) (take-suc xs n no_instance (omega arith)) ∙ any-joined test (take n xs) (get_or xs n no_instance ∷ [])
+    ∙ ap (λ (b : Bool). list_any test (take n xs) || b) (or-false (test (get_or xs n no_instance))))
 
 -- ---- Who serves an event
 
 -- an instance of a stack serves it: the bottom, or one above the instance whose goal it is
 served_on : (origin : Origin) (external : ℕ) (x : Instance) (below : List Instance)
-    → any (serves origin) (jobs_on external (x ∷ below)) ≡ (same_origin origin (External external) || any (has_goal origin) below)
-unfolding any jobs_on
+    → list_any (serves origin) (jobs_on external (x ∷ below)) ≡ (same_origin origin (External external) || list_any (has_goal origin) below)
+unfolding jobs_on
 served_on origin external x [] = refl
 served_on origin external x (y ∷ below) =
     ap (λ (b : Bool). has_goal origin y || b) (served_on origin external y below)
-    ∙ swap (has_goal origin y) (same_origin origin (External external)) (any (has_goal origin) below)
+    ∙ swap (has_goal origin y) (same_origin origin (External external)) (list_any (has_goal origin) below)
   where
     swap : (a b c : Bool) → (a || (b || c)) ≡ (b || (a || c))
     swap true true c = refl
@@ -68,18 +61,18 @@ served_on origin external x (y ∷ below) =
     swap false b c = refl
 
 pub served_stack : (origin : Origin) (stack : Stack) → length stack.below ≡ 7
-    → any (serves origin) (jobs_of (view_stack stack)) ≡ (same_origin origin (External stack.external) || any (has_goal origin) (take (depth_of stack) stack.below))
+    → list_any (serves origin) (jobs_of (view_stack stack)) ≡ (same_origin origin (External stack.external) || list_any (has_goal origin) (take (depth_of stack) stack.below))
 served_stack origin stack h =
     served_on origin stack.external stack.top (down (depth_of stack) stack.below)
     ∙ ap (λ (b : Bool). same_origin origin (External stack.external) || b) (any-down (has_goal origin) (depth_of stack) stack.below (omega arith))
 
 -- an instance of some stack
-pub live-any : (test : Job → Bool) (stacks : List Stack) → any test (live (map view_stack stacks)) ≡ any (λ k. any test (jobs_of (view_stack k))) stacks
-unfolding any live
+pub live-any : (test : Job → Bool) (stacks : List Stack) → list_any test (live (map view_stack stacks)) ≡ list_any (λ k. list_any test (jobs_of (view_stack k))) stacks
+unfolding live
 live-any test [] = refl
 live-any test (k ∷ stacks) =
     any-joined test (jobs_of (view_stack k)) (each jobs_of (map view_stack stacks))
-    ∙ ap (λ (b : Bool). any test (jobs_of (view_stack k)) || b) (live-any test stacks)
+    ∙ ap (λ (b : Bool). list_any test (jobs_of (view_stack k)) || b) (live-any test stacks)
 
 -- ---- Elements
 

@@ -1,6 +1,6 @@
 -- What the arrays of a state mean: the model's state (document 01, "State"). Places past a count are no part of it.
 use Rattle.std.specs.Prelude.{ℕ, zero, suc, min, Bool, ◌&&◌, List, [], ◌∷◌, map, take, get_or, leb}
-use Rattle.lists.specs.Search.{all}
+use Rattle.std.specs.List.{list_all}
 use Rattle.belief.specs.Beliefs.{most_beliefs, view}
 use Rattle.model.specs.declared.Event.{Event}
 use Rattle.model.specs.declared.Instance.{Instance}
@@ -56,4 +56,4 @@ view_state s = record { beliefs = view s.beliefs; queue = view_queue s; stacks =
 unfoldable pub counts_fit : State → Bool
 counts_fit s =
     leb s.beliefs.count most_beliefs && (leb s.queued most_queued && (leb s.stacked most_stacks
-    && all (λ stack. leb stack.depth most_below) (take (stacked_of s) s.stacks)))
+    && list_all (λ stack. leb stack.depth most_below) (take (stacked_of s) s.stacks)))

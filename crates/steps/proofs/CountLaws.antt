@@ -8,7 +8,7 @@ use lib.ListN.{length, take, set, get_or, length-take}
 use lib.Seq.{take-suc-set, take-set-lt, get_or-take}
 use lib.Dec.{ltb}
 use borrow.Author.Tests.{le-leb, leb-true, ltb-true}
-use Rattle.lists.specs.Search.{all}
+use Rattle.std.specs.List.{list_all}
 use Rattle.lists.specs.Gap.{remove_at, close_gap}
 use Rattle.lists.proofs.BoolLaws.{by_cases, and_both}
 use Rattle.lists.proofs.AllLaws.{all_at, all_set}
@@ -23,8 +23,7 @@ use Rattle.state.specs.Queue.{with_queue, enqueue, dequeue, put_event}
 use Rattle.state.specs.Stacks.{with_stacks, open_last, put_at, drop_at, turn_last}
 use Rattle.state.proofs.CountParts.{is_shallow, Counts, counts-parts, counts_whole}
 
-one_shallow : (stack : Stack) → stack.depth ≤ 7 → all is_shallow (stack ∷ []) ≡ true
-unfolding all
+one_shallow : (stack : Stack) → stack.depth ≤ 7 → list_all is_shallow (stack ∷ []) ≡ true
 one_shallow stack low = and_both (is_shallow stack) true (le-leb _ _ low) refl
 
 module _ (s : State) (h : counts_fit s ≡ true) where
@@ -62,11 +61,11 @@ module _ (s : State) (h : counts_fit s ≡ true) where
       let deep = all_at is_shallow (take (stacked_of s) s.stacks) place d counts.depths (omega (arith, length-take (stacked_of s) s.stacks)) in
       leb-true _ _ (rw (get_or-take (stacked_of s) s.stacks place d low) at deep)
 
-  counts-stacks : (stacks : List Stack) (n : ℕ) → n ≤ 8 → (kept : List Stack) → take (min n 8) stacks ≡ kept → all is_shallow kept ≡ true
+  counts-stacks : (stacks : List Stack) (n : ℕ) → n ≤ 8 → (kept : List Stack) → take (min n 8) stacks ≡ kept → list_all is_shallow kept ≡ true
       → counts_fit (with_stacks s stacks n) ≡ true
   counts-stacks stacks n few kept e deep =
       counts_whole (with_stacks s stacks n)
-      (record { beliefs = counts.beliefs; queued = counts.queued; stacked = few; depths = ap (all is_shallow) e ∙ deep })
+      (record { beliefs = counts.beliefs; queued = counts.queued; stacked = few; depths = ap (list_all is_shallow) e ∙ deep })
 
   module _ (len : length s.stacks ≡ 8) where
     pub counts_open : (stack : Stack) → stack.depth ≤ 7 → counts_fit (open_last s stack) ≡ true
@@ -75,7 +74,7 @@ module _ (s : State) (h : counts_fit s ≡ true) where
         (λ p. let room = ltb-true s.stacked most_stacks p in
         let now : min s.stacked 8 ≡ s.stacked = omega arith in
         let next : min (s.stacked + 1) 8 ≡ suc s.stacked = omega arith in
-        let held : all is_shallow (take s.stacked s.stacks) ≡ true = rw now at counts.depths in
+        let held : list_all is_shallow (take s.stacked s.stacks) ≡ true = rw now at counts.depths in
         let kept : take (min (s.stacked + 1) 8) (set s.stacks s.stacked stack) ≡ take s.stacked s.stacks ++ (stack ∷ [])
         = rw next (take-suc-set s.stacks s.stacked stack (omega arith)) in
         rw p (counts-stacks (set s.stacks s.stacked stack) (s.stacked + 1) (omega arith) _ kept

@@ -3,7 +3,7 @@ use Prim.Native.Nat.{ℕ, ◌<◌, ◌≤◌}
 use native.Mathlib.Omega.{arith}
 use mathlib.Core.Path.{◌≡◌, refl, ap, sym, subst, ◌∙◌}
 use mathlib.Core.Bool.{Bool, true, false}
-use mathlib.Core.Option.{some, none}
+use Rattle.std.specs.Prelude.{Some, None}
 use mathlib.Core.List.{[]}
 use lib.ListN.{length, get_or, set}
 use Rattle.lists.specs.Search.{position}
@@ -35,18 +35,18 @@ use Rattle.steps.proofs.CountLaws.{counts-put, counts_depth}
 use Rattle.steps.proofs.StepLaws.{step_replies}
 
 module _ (library : Library) (s : State) (id place : ℕ) (e : place ≡ position (is_awaiting id) (view_stacks s)) (len : length s.stacks ≡ 8) where
-  pub told-nobody : (worked : Bool) → stacked_of s ≤ place → told library (view_state s) id worked ≡ outcome_by library (view_state s) worked none
+  pub told-nobody : (worked : Bool) → stacked_of s ≤ place → told library (view_state s) id worked ≡ outcome_by library (view_state s) worked None
   unfolding told
   told-nobody worked h = ap (outcome_by library (view_state s) worked) (first-none (is_awaiting id) (view_stacks s) place e (omega (arith, length-stacks s len)))
 
   module _ (there : place < stacked_of s) (d : Stack) where
     told_there : (worked : Bool) → told library (view_state s) id worked
-        ≡ outcome_by library (view_state s) worked (some (record { place = place; it = view_stack (get_or s.stacks place d) }))
+        ≡ outcome_by library (view_state s) worked (Some (record { place = place; it = view_stack (get_or s.stacks place d) }))
     unfolding told
     told_there worked =
         ap (outcome_by library (view_state s) worked)
         (first_at (is_awaiting id) (view_stacks s) place (view_stack d) e (omega (arith, length-stacks s len))
-        ∙ ap (λ (k : Intention). some (record { place = place; it = k })) (stack_at_lem s place d there))
+        ∙ ap (λ (k : Intention). Some (record { place = place; it = k })) (stack_at_lem s place d there))
 
 -- ---- The step
 

@@ -6,9 +6,8 @@ use mathlib.Core.Bool.{Bool, true, false, cond}
 use mathlib.Core.List.{List}
 use lib.ListN.{length, length-set, length-append, length-take, length-drop}
 use lib.Dec.{ltb}
-use borrow.Author.Tests.{le-ltb, ltb-true}
+use borrow.Author.Tests.{ltb-true}
 use Rattle.lists.specs.Gap.{close_gap}
-use Rattle.lists.proofs.BoolLaws.{both_ways}
 use Rattle.belief.specs.declared.Beliefs.{Beliefs}
 use Rattle.belief.specs.Beliefs.{view}
 use Rattle.model.specs.declared.Answer.{Answer}
@@ -16,14 +15,15 @@ use Rattle.model.specs.declared.Event.{Event}
 use Rattle.model.specs.State.{AgentState, Reply, reply}
 use Rattle.state.specs.declared.Stack.{Stack}
 use Rattle.state.specs.declared.State.{State}
-use Rattle.state.specs.View.{queued_of, view_state, counts_fit}
+use Rattle.state.specs.View.{queued_of, stacked_of, view_state, counts_fit}
 use Rattle.state.specs.Queue.{with_queue, enqueue, dequeue, put_event}
+use Rattle.state.specs.Stacks.{with_stacks, open_last, put_at, drop_at, turn_last}
 use Rattle.state.proofs.CountParts.{Counts, counts-parts, counts_whole}
 use Rattle.moves.specs.declared.QueueMove.{QueueMove}
 use Rattle.moves.specs.declared.QueueMove.TheVariants as queue
-use Rattle.moves.specs.Moves.{requeue, restack, taken_by, made_by}
-use Rattle.moves.specs.Parts.{moves_queue, place_in, events_after, queued_after, stacks_after, stacked_after}
-use Rattle.moves.proofs.MoveLaws.{requeue-parts, restack-parts}
+use Rattle.moves.specs.declared.StackMove.{StackMove}
+use Rattle.moves.specs.declared.StackMove.TheVariants as stacks
+use Rattle.moves.specs.Moves.{place_of, requeue, restack, taken_by, made_by}
 use Rattle.steps.specs.declared.step.Step.{Step}
 use Rattle.steps.specs.View.{plainly, Sized}
 use Rattle.steps.specs.Gives.{Replies}
@@ -64,13 +64,6 @@ rest-applied s b answer t e h =
     ap (applied s) e
     ∙ (λ i. plainly (record { beliefs = sym h i; queue = s.queue; queued = s.queued; stacks = s.stacks; stacked = s.stacked; taken = s.taken; made = s.made }) answer)
 
--- ---- The queue
-
--- nothing is put where no event stands
-pub put-past : (s : State) (place : ℕ) (event : Event) → queued_of s ≤ place → s ≡ put_event s place event
-unfolding put_event
-put-past s place event h = rw (le-ltb place (queued_of s) h)
-
 -- ---- The lengths of the arrays
 
 length_gap : {A : Type 0} (xs : List A) (i n : ℕ) → i ≤ n → n < length xs → length (close_gap i n xs) ≡ length xs
@@ -95,41 +88,34 @@ module _ (s : State) (h : Sized s) where
   unfolding put_event
   sized_put place event = sized_queue (ltb place (queued_of s)) s _ _ h (λ e. length-set s.queue place event ∙ h.queue)
 
--- ---- A step, part by part
+sized_stacks : (b : Bool) (s : State) (stacks : List Stack) (stacked : ℕ) → Sized s → (b ≡ true → length stacks ≡ 8) → Sized (cond b (with_stacks s stacks stacked) s)
+sized_stacks true s stacks stacked h e = record { queue = h.queue; stacks = e refl }
+sized_stacks false s stacks stacked h e = h
 
--- the queue moves
-pub queue_moved : (change : QueueMove) (s : State) (place : ℕ) (events : List Event) (queued : ℕ) → place ≡ place_in change s.queue s.queued
-    → events ≡ events_after change place s.queue s.queued → queued ≡ queued_after change place s.queued → with_queue s events queued ≡ requeue change s
-queue_moved change s place events queued at e n =
-    (λ i. with_queue s (e i) (n i))
-    ∙ ap (λ (p : ℕ). with_queue s (events_after change p s.queue s.queued) (queued_after change p s.queued)) at ∙ sym (requeue-parts change s)
+module _ (s : State) (h : Sized s) where
+  sized_requeue : (change : QueueMove) → Sized (requeue change s)
+  sized_requeue queue.Keep = h
+  sized_requeue (queue.Enqueue event) = sized_enqueue s h event
+  sized_requeue (queue.Remove place) = sized_dequeue s h place
+  sized_requeue (queue.Close origin) = sized_dequeue s h (place_of s origin)
+  sized_requeue (queue.Mark origin plan) = sized_put s h (place_of s origin) _
 
--- or it does not
-pub queue_kept : (change : QueueMove) (s : State) → moves_queue change ≡ false → s ≡ requeue change s
-queue_kept queue.Keep s e = refl
-queue_kept (queue.Enqueue event) s e = both_ways refl e
-queue_kept (queue.Remove place) s e = both_ways refl e
-queue_kept (queue.Close origin) s e = both_ways refl e
-queue_kept (queue.Mark origin plan) s e = both_ways refl e
+  length_closed : (place : ℕ) → ltb place (stacked_of s) ≡ true → length (close_gap place (stacked_of s - 1) s.stacks) ≡ 8
+  length_closed place e =
+      let low = ltb-true place (stacked_of s) e in
+      length_gap s.stacks place (stacked_of s - 1) (omega arith) (omega (arith, h.stacks)) ∙ h.stacks
 
--- then the stacks, the numbers and the table
-module _ (t : Step) (s u : State) (is : u ≡ requeue t.queue s) where
-  abbrev settled : State → State
-  settled v =
-      record {
-        beliefs = t.altered.table;
-        queue = v.queue;
-        queued = v.queued;
-        stacks = v.stacks;
-        stacked = v.stacked;
-        taken = taken_by t.numbering v.taken;
-        made = made_by t.numbering v.made;
-      }
+  sized_restack : (change : StackMove) (stack : Stack) → Sized (restack change stack s)
+  unfolding open_last put_at drop_at turn_last
+  sized_restack stacks.Keep stack = h
+  sized_restack stacks.Open stack = sized_stacks (ltb s.stacked 8) s _ _ h (λ e. length-set s.stacks s.stacked stack ∙ h.stacks)
+  sized_restack (stacks.Replace place) stack = sized_stacks (ltb place (stacked_of s)) s _ _ h (λ e. length-set s.stacks place stack ∙ h.stacks)
+  sized_restack (stacks.Last place) stack =
+      sized_stacks (ltb place (stacked_of s)) s _ _ h (λ e. length-set (close_gap place (stacked_of s - 1) s.stacks) (stacked_of s - 1) stack ∙ length_closed place e)
+  sized_restack (stacks.Remove place) stack = sized_stacks (ltb place (stacked_of s)) s _ _ h (λ e. length_closed place e)
 
-  pub parts-after : (stacks : List Stack) (stacked taken made : ℕ) → stacks ≡ stacks_after t.stacks t.stack u.stacks u.stacked
-      → stacked ≡ stacked_after t.stacks u.stacked → taken ≡ taken_by t.numbering u.taken → made ≡ made_by t.numbering u.made
-      → (v : State) → v ≡ record { beliefs = t.altered.table; queue = u.queue; queued = u.queued; stacks = stacks; stacked = stacked; taken = taken; made = made }
-      → v ≡ state_after s t
-  parts-after stacks stacked taken made k n x y v e =
-      e ∙ (λ i. record { beliefs = t.altered.table; queue = u.queue; queued = u.queued; stacks = k i; stacked = n i; taken = x i; made = y i })
-      ∙ ap settled (sym (restack-parts t.stacks t.stack u)) ∙ ap (λ (w : State). settled (restack t.stacks t.stack w)) is
+-- a step keeps them
+pub sized_after : (s : State) → Sized s → (t : Step) → Sized (state_after s t)
+sized_after s h t =
+    let m = sized_restack (requeue t.queue s) (sized_requeue s h t.queue) t.stacks t.stack in
+    record { queue = m.queue; stacks = m.stacks }

@@ -1,5 +1,5 @@
 -- What the step of a report is (document 01, "The three calls", Report), and the states that it is for.
-use Rattle.std.specs.Prelude.{ℕ, ◌+◌, ◌<◌, min, ◌≡◌, true, List, [], take}
+use Rattle.std.specs.Prelude.{ℕ, ◌+◌, ◌<◌, ◌≡◌, true, List, []}
 use Rattle.literal.specs.declared.Literal.{Literal}
 use Rattle.belief.specs.declared.Beliefs.{Beliefs}
 use Rattle.belief.specs.Beliefs.{view}
@@ -21,9 +21,8 @@ use Rattle.steps.specs.Step.{blank_stack, rest_step}
 -- ---- The step
 
 -- what a report asks of the model's state
-abbrev pub heard : Beliefs → List Event → ℕ → ℕ → AgentState
-heard beliefs events queued taken =
-    record { beliefs = view beliefs; queue = take (min queued most_queued) events; stacks = []; taken = taken; made = 0 }
+abbrev pub heard : Beliefs → List Event → ℕ → AgentState
+heard beliefs queue taken = record { beliefs = view beliefs; queue = queue; stacks = []; taken = taken; made = 0 }
 
 -- a new event at the queue's end, numbered after the last one taken, and the table
 abbrev pub taken_step : ℕ → ℕ → Literal → Altered → Step
@@ -43,10 +42,10 @@ pub record TakesIn (beliefs : Beliefs) (taken kind : ℕ) (l : Literal) (t : Ste
   pub step : t ≡ taken_step taken kind l t.altered
 
 -- refused by its number, taken in where that is 0
-pub record Reports (beliefs : Beliefs) (events : List Event) (queued taken kind : ℕ) (l : Literal) (t : Step) : Type 0 where
-  pub refused : (report_refusal (heard beliefs events queued taken) kind l ≡ 0 → ⊥)
-      → t ≡ rest_step beliefs (Refused (report_refusal (heard beliefs events queued taken) kind l))
-  pub taken_in : report_refusal (heard beliefs events queued taken) kind l ≡ 0 → TakesIn beliefs taken kind l t
+pub record Reports (beliefs : Beliefs) (queue : List Event) (taken kind : ℕ) (l : Literal) (t : Step) : Type 0 where
+  pub refused : (report_refusal (heard beliefs queue taken) kind l ≡ 0 → ⊥)
+      → t ≡ rest_step beliefs (Refused (report_refusal (heard beliefs queue taken) kind l))
+  pub taken_in : report_refusal (heard beliefs queue taken) kind l ≡ 0 → TakesIn beliefs taken kind l t
 
 -- ---- The states that it is for
 

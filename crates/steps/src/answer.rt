@@ -11,10 +11,9 @@ use trials::changes;
 pub fn plain_result(answer: Answer) -> Answered
     ensures { result ≡ plain answer }
 {
-    let nothing = changes::no_change();
     Answered {
-        answer: answer,
-        changes: [nothing; MOST_CHANGES],
+        answer,
+        changes: [changes::no_change(); MOST_CHANGES],
         count: 0,
     }
 }
@@ -23,9 +22,8 @@ pub fn plain_result(answer: Answer) -> Answered
 pub fn acted(s: State, answer: Answer) -> Acted
     ensures { result ≡ plainly s answer }
 {
-    let result = plain_result(answer);
     Acted {
         state: s,
-        result: result,
+        result: plain_result(answer),
     }
 }

@@ -15,8 +15,7 @@ fn served_by(stack: Stack) -> Origin
     if stacks::depth_of(stack) < 1 {
         return Origin::External(stack.external);
     }
-    let poster = stacks::under_top(stack);
-    origin::goal_of(poster)
+    origin::goal_of(stacks::under_top(stack))
 }
 
 // What becomes of the event of a stack's top.
@@ -24,14 +23,12 @@ pub fn end_move(stack: Stack, succeeds: bool) -> QueueMove
     ensures { result ≡ end_move succeeds (view_stack stack) }
 {
     let served = served_by(stack);
-    let closed = QueueMove::Close(served);
     if succeeds {
-        return closed;
+        QueueMove::Close(served)
+    } else {
+        QueueMove::Mark {
+            origin: served,
+            plan: stack.top.plan,
+        }
     }
-    let x = stack.top;
-    let marked = QueueMove::Mark {
-        origin: served,
-        plan: x.plan,
-    };
-    marked
 }

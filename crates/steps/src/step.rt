@@ -1,11 +1,11 @@
 // A step: what a call answers and what it does to the state, decided before anything changes.
 ghost use Rattle.std.specs.Prelude.{◌≡◌};
-ghost use Rattle.steps.specs.Step.{opened_stack, blank_stack, result_of, plain_step, rest_step, applied};
+ghost use Rattle.steps.specs.Step.{opened_stack, blank_stack, result_of, plain_step, rest_step, state_after, applied};
 
 use crate::Acted;
 use belief::Beliefs;
 use model::{Answer, Answered, Instance, Number, Status};
-use moves::{Numbering, QueueMove, StackMove, queue, stacks};
+use moves::{Numbering, QueueMove, StackMove};
 use state::{MOST_BELOW, Stack, State};
 use trials::changes;
 use trials::changes::Altered;
@@ -39,11 +39,10 @@ pub fn new_stack(external: Number, x: Instance) -> Stack
 pub fn no_stack() -> Stack
     ensures { result ≡ blank_stack }
 {
-    let env = literal::empty_env();
     let nobody = Instance {
         id: 0,
         plan: 0,
-        env: env,
+        env: literal::empty_env(),
         state: 0,
         tried: 0,
         status: Status::Active,
@@ -62,14 +61,13 @@ pub fn plain_step(
 ) -> Step
     ensures { result ≡ plain_step b answer queue stacks stack numbering }
 {
-    let altered = changes::unaltered(b);
     Step {
-        answer: answer,
-        altered: altered,
-        queue: queue,
-        stacks: stacks,
-        stack: stack,
-        numbering: numbering,
+        answer,
+        altered: changes::unaltered(b),
+        queue,
+        stacks,
+        stack,
+        numbering,
     }
 }
 
@@ -77,63 +75,49 @@ pub fn plain_step(
 pub fn no_step(b: Beliefs, answer: Answer) -> Step
     ensures { result ≡ rest_step b answer }
 {
-    let stack = no_stack();
     plain_step(
         b,
         answer,
         QueueMove::Keep,
         StackMove::Keep,
-        stack,
+        no_stack(),
         Numbering::Keep,
     )
 }
 
 // What it answers, with the changes.
-pub fn result_of(t: Step) -> Answered
-    ensures { result ≡ result_of t }
+pub fn result_of(t: &Step) -> Answered
+    ensures { result ≡ result_of t.now }
 {
-    let altered = t.altered;
-    let changes = altered.changes;
-    let answer = t.answer;
     Answered {
-        answer: answer,
-        changes: changes,
-        count: altered.count,
+        answer: t.answer,
+        changes: t.altered.changes,
+        count: t.altered.count,
     }
 }
 
 // ---- The state after a step
 
-// The state after a step, part by part, and its result.
+impl Step {
+    // Makes the step on a state: the queue, the stacks, the numbers and the table, each by its move.
+    pub fn apply(&self, s: &mut State)
+        ensures { s.new ≡ state_after s.old self.now }
+    {
+        self.queue.apply(s);
+        self.stacks.apply(s, self.stack);
+        self.numbering.apply(s);
+        s.beliefs = self.altered.table;
+    }
+}
+
+// The state after a step, and its result.
 pub fn acted_by(s: State, t: Step) -> Acted
     ensures { result ≡ applied s t }
 {
-    let change = t.queue;
-    let events = s.queue;
-    let place = queue::place_in(events, s.queued, change);
-    let queue = queue::events_after(events, s.queued, place, change);
-    let queued = queue::queued_after(s.queued, place, change);
-    let moved = t.stacks;
-    let standing = s.stacks;
-    let stack = t.stack;
-    let stacks = stacks::stacks_after(standing, s.stacked, moved, stack);
-    let stacked = stacks::stacked_after(s.stacked, moved);
-    let numbering = t.numbering;
-    let taken = moves::taken_after(s.taken, numbering);
-    let made = moves::made_after(s.made, numbering);
-    let altered = t.altered;
-    let table = altered.table;
-    let result = result_of(t);
+    let mut state = s;
+    t.apply(&mut state);
     Acted {
-        state: State {
-            beliefs: table,
-            queue: queue,
-            queued: queued,
-            stacks: stacks,
-            stacked: stacked,
-            taken: taken,
-            made: made,
-        },
-        result: result,
+        state,
+        result: result_of(&t),
     }
 }

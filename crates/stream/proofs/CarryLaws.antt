@@ -1,17 +1,16 @@
 -- Laws of the line so far: bytes may come in parts, and what is too long stays too long and says nothing.
-use Prim.Native.Nat.{ℕ, suc, ◌+◌, ◌-◌, ◌≤◌, ◌<◌}
+use Prim.Native.Nat.{ℕ, ◌+◌, ◌-◌, ◌≤◌, ◌<◌}
 use mathlib.Core.Path.{◌≡◌, refl, sym, ap, ◌∙◌}
-use mathlib.Core.Option.{Option, none, some}
+use Rattle.std.specs.Prelude.{Option, None, Some}
 use mathlib.Core.List.{List, [], ◌∷◌, ◌++◌, append-nil, append_assoc}
 use native.Mathlib.Omega.{arith}
 use lib.Dec.{leb}
-use lib.ListN.{length, take, drop, get_or, set, length-append, length-take, length-drop}
-use lib.Seq.{take_all, take-suc-set}
+use lib.ListN.{length, take, length-append, length-take}
+use borrow.Rule.Slice.PartMut.{put_mid}
+use Rattle.std.proofs.lemmas.Slice.{take-put_mid}
 use borrow.Author.Tests.{le-leb, lt-leb, leb-true, leb-false}
 use Rattle.lists.proofs.BoolLaws.{by_cases}
 use Rattle.reading.specs.Call.{most_line, call_of}
-use Rattle.reading.specs.Places.{part}
-use Rattle.reading.proofs.PlaceLaws.{part_none, part_more, part_length}
 use Rattle.reading.proofs.LongLines.{long_unreadable}
 use Rattle.stream.specs.declared.Carry.{Carry}
 use Rattle.stream.specs.Carried.{kept, begun, more, said}
@@ -19,11 +18,11 @@ use Rattle.stream.specs.Calls.{at_end}
 
 -- ---- Lines that are kept or not
 
-pub kept_short : (line : List ℕ) → length line ≤ most_line → kept line ≡ some line
+pub kept_short : (line : List ℕ) → length line ≤ most_line → kept line ≡ Some line
 unfolding kept
 kept_short line h = rw (le-leb _ _ h)
 
-pub kept_long : (line : List ℕ) → most_line < length line → kept line ≡ none
+pub kept_long : (line : List ℕ) → most_line < length line → kept line ≡ None
 unfolding kept
 kept_long line h = rw (lt-leb _ _ h)
 
@@ -43,8 +42,8 @@ more_kept line bytes =
     (λ e. let far = leb-false (length line) most_line e in rw (kept_long line far) (sym (kept_long (line ++ bytes) (rw length-append (omega arith)))))
 
 pub more_twice : (held : Option (List ℕ)) (one two : List ℕ) → more (more held one) two ≡ more held (one ++ two)
-more_twice none one two = refl
-more_twice (some line) one two = more_kept (line ++ one) two ∙ ap kept (append_assoc line one two)
+more_twice None one two = refl
+more_twice (Some line) one two = more_kept (line ++ one) two ∙ ap kept (append_assoc line one two)
 
 -- no bytes change nothing of what a carry can hold
 abbrev pub Kept : Option (List ℕ) → Type 0
@@ -53,39 +52,21 @@ Kept held = more held [] ≡ held
 pub more_stays : (held : Option (List ℕ)) (bytes : List ℕ) → Kept (more held bytes)
 more_stays held bytes = more_twice held bytes [] ∙ rw append-nil
 
-pub kept_nothing : Kept (some [])
+pub kept_nothing : Kept (Some [])
 kept_nothing = kept_short [] (omega arith)
 
 -- at the input's end a line of some bytes is a line
-line_left : (line : List ℕ) → 0 < length line → at_end (some line) ≡ call_of line ∷ []
+line_left : (line : List ℕ) → 0 < length line → at_end (Some line) ≡ call_of line ∷ []
 line_left [] h = absurd (omega arith)
 line_left (b ∷ line) h = refl
 
-pub part-all : (chunk : List ℕ) (at : ℕ) → part chunk at (length chunk) ≡ drop at chunk
-part-all chunk at = take_all (length chunk - at) (drop at chunk) (rw length-drop (omega arith))
-
--- ---- A loop that copies a part of a chunk behind the first bytes
-module _ (bytes chunk : List ℕ) (count at : ℕ) where
-  -- what stands there once the loop has come to i
-  abbrev pub Copied : List ℕ → ℕ → Type 0
-  Copied next i = take (count + (i - at)) next ≡ take count bytes ++ part chunk at i
-
-  pub copied-start : Copied bytes at
-  copied-start = let none_yet : count + (at - at) ≡ count = omega arith in rw (none_yet, part_none chunk at, append-nil)
-
-  pub copied_more : (next : List ℕ) (i : ℕ) → at ≤ i → i < length chunk → count + (i - at) < length next → Copied next i
-      → Copied (set next (count + (i - at)) (get_or chunk i 0)) (i + 1)
-  copied_more next i h g room inv =
-      let n : count + (i + 1 - at) ≡ suc (count + (i - at)) = omega arith in
-      rw (n, take-suc-set next (count + (i - at)) (get_or chunk i 0) room, inv, part_more chunk at i h g, append_assoc)
-
 -- ---- Carries
 module _ (carry : Carry) where
-  pub begun_short : carry.count ≤ most_line → begun carry ≡ some (take carry.count carry.bytes)
+  pub begun_short : carry.count ≤ most_line → begun carry ≡ Some (take carry.count carry.bytes)
   unfolding begun
   begun_short h = rw (le-leb _ _ h)
 
-  pub begun_long : most_line < carry.count → begun carry ≡ none
+  pub begun_long : most_line < carry.count → begun carry ≡ None
   unfolding begun
   begun_long h = rw (lt-leb _ _ h)
 
@@ -101,23 +82,28 @@ module _ (carry : Carry) where
   pub in_place_lem : (line : List ℕ) → carry.count ≡ 0 → call_of line ≡ said (more (begun carry) line)
   in_place_lem line e = rw (begun_short (omega arith), e) (sym (said-kept line))
 
-  -- ---- With a part of a chunk
+  -- ---- With further bytes
 
   -- too long already
   pub extend_past : (bytes : List ℕ) → most_line < carry.count → begun carry ≡ more (begun carry) bytes
   extend_past bytes h = rw (begun_long h)
 
-  module _ (l : length carry.bytes ≡ most_line) (few : carry.count ≤ most_line) (chunk : List ℕ) (at stop : ℕ) (h : at ≤ stop) (g : stop ≤ length chunk) where
-    size : length (take carry.count carry.bytes ++ part chunk at stop) ≡ carry.count + (stop - at)
-    size = rw (length-append, part_length chunk at stop h g, length-take) (omega arith)
+  module _ (l : length carry.bytes ≡ most_line) (few : carry.count ≤ most_line) (bytes : List ℕ) where
+    size : length (take carry.count carry.bytes ++ bytes) ≡ carry.count + length bytes
+    size = rw (length-append, length-take) (omega arith)
 
     -- too long now
-    pub extend_over : most_line - carry.count < stop - at → none ≡ more (begun carry) (part chunk at stop)
+    pub extend_over : most_line - carry.count < length bytes → None ≡ more (begun carry) bytes
     extend_over over = rw (begun_short few) (sym (kept_long _ (rw size (omega arith))))
 
     -- not too long
-    pub extend_fits : stop - at ≤ most_line - carry.count → more (begun carry) (part chunk at stop) ≡ some (take carry.count carry.bytes ++ part chunk at stop)
+    pub extend_fits : length bytes ≤ most_line - carry.count → more (begun carry) bytes ≡ Some (take carry.count carry.bytes ++ bytes)
     extend_fits fits = rw (begun_short few) (kept_short _ (rw size (omega arith)))
+
+  -- the bytes as the code puts them behind the first ones
+  pub extend_put : (bytes : List ℕ) → carry.count ≤ length carry.bytes
+      → take (carry.count + length bytes) (put_mid carry.count (carry.count + length bytes - carry.count) carry.bytes bytes) ≡ take carry.count carry.bytes ++ bytes
+  extend_put bytes few = take-put_mid carry.count _ carry.bytes bytes _ refl few
 
   -- ---- At the input's end
 

@@ -2,81 +2,76 @@
 use Prim.Native.Nat.{ℕ, suc, ◌+◌, ◌-◌, ◌≤◌, ◌<◌}
 use mathlib.Core.Path.{◌≡◌, refl, sym, ap, ◌∙◌}
 use mathlib.Core.Bool.{true, false}
-use mathlib.Core.Option.{Option, none, some}
+use Rattle.std.specs.Prelude.{Option, None, Some}
 use mathlib.Core.List.{List, [], ◌∷◌, ◌++◌}
-use native.Mathlib.Numerals.{add-one}
 use native.Mathlib.Omega.{arith}
 use lib.Dec.{ltb}
-use lib.ListN.{length, take, drop, get_or, length-drop, drop_of_length-le, take-append-drop}
-use lib.Seq.{take-add, drop-drop, drop-cons}
+use lib.ListN.{length, take, drop, length-drop, take-append-drop}
+use lib.Seq.{take-add, drop-drop}
 use borrow.Author.Tests.{lt-ltb, le-ltb, ltb-true, ltb-false}
-use Rattle.lists.specs.Search.{position}
+use Rattle.std.specs.Option.{option_map}
+use Rattle.std.specs.List as std
+use Rattle.std.specs.List.{position_or_len, slice_range}
 use Rattle.lists.proofs.BoolLaws.{by_cases}
 use Rattle.lists.proofs.OptionLaws.{some_equal, none-some}
 use Rattle.model.specs.State.{Call}
-use Rattle.reading.specs.declared.Spoken.{Spoken}
 use Rattle.reading.specs.Spoken.{meaning}
 use Rattle.reading.specs.Places.{part}
+use Rattle.reading.proofs.PlaceLaws.{part-all}
 use Rattle.stream.specs.declared.Carry.{Carry}
-use Rattle.stream.specs.declared.Next.TheVariants.{Line, Used}
+use Rattle.stream.specs.declared.Line.{Line}
 use Rattle.stream.specs.Lines.{is_newline}
 use Rattle.stream.specs.Carried.{begun, more, said}
-use Rattle.stream.specs.Calls.{calls_from, line_after, line_end, Ended, ended_at, next_line, shown}
+use Rattle.stream.specs.Calls.{calls_from, line_after, line_end, newline_at, Ended, ended_at, next_line, shown}
 use Rattle.stream.proofs.CarryLaws.{Kept, more_twice, more_stays, begun_kept}
 
 -- ---- The place of the first newline
 
-first_here : (b : ℕ) (bytes : List ℕ) → is_newline b ≡ true → position is_newline (b ∷ bytes) ≡ 0
-unfolding position
+first_here : (b : ℕ) (bytes : List ℕ) → is_newline b ≡ true → position_or_len is_newline (b ∷ bytes) ≡ 0
 first_here b bytes e = rw e
 
-first_later : (b : ℕ) (bytes : List ℕ) → is_newline b ≡ false → position is_newline (b ∷ bytes) ≡ suc (position is_newline bytes)
-unfolding position
-first_later b bytes e = rw e
+first_later : (b : ℕ) (bytes : List ℕ) → is_newline b ≡ false → position_or_len is_newline (b ∷ bytes) ≡ suc (position_or_len is_newline bytes)
+first_later b bytes e = rw e (omega arith)
 
--- ---- A loop that looks for it
+-- ---- Where the code finds it, in the rest of the chunk from a place on
+module _ (chunk : List ℕ) (at : ℕ) (rest : List ℕ) (is : rest ≡ slice_range chunk at (length chunk)) where
+  newline-found : newline_at chunk at ≡ option_map (λ size. at + size) (std.position is_newline rest)
+  newline-found =
+      rw (is, part-all chunk at)
+      (by_cases (ltb (position_or_len is_newline (drop at chunk)) (length (drop at chunk)))
+      (λ e. rw (e, lt-ltb (line_end chunk at) (length chunk) (omega (arith, ltb-true _ _ e, length-drop at chunk))))
+      (λ e. rw (e, le-ltb (line_end chunk at) (length chunk) (omega (arith, ltb-false _ _ e, length-drop at chunk)))))
 
--- it is not before i
-abbrev pub Before : List ℕ → ℕ → ℕ → Type 0
-Before chunk at i = line_end chunk at ≡ line_end chunk i
+  pub newline_there : (size : ℕ) → Some size ≡ std.position is_newline rest → Some (at + size) ≡ newline_at chunk at
+  newline_there size e = ap (option_map (λ size. at + size)) e ∙ sym newline-found
 
-module _ (chunk : List ℕ) (at i : ℕ) where
-  pub before_more : i < length chunk → is_newline (get_or chunk i 0) ≡ false → Before chunk at i → Before chunk at (i + 1)
-  before_more h e inv =
-      let step : position is_newline (drop i chunk) ≡ suc (position is_newline (drop (i + 1) chunk)) = rw (drop-cons chunk i 0 h, add-one) (first_later _ _ e) in
-      omega (arith, inv)
+  pub newline_nowhere : None ≡ std.position is_newline rest → None ≡ newline_at chunk at
+  newline_nowhere e = ap (option_map (λ size. at + size)) e ∙ sym newline-found
 
-  pub before_found : i < length chunk → is_newline (get_or chunk i 0) ≡ true → Before chunk at i → i ≡ line_end chunk at
-  before_found h e inv =
-      let here : position is_newline (drop i chunk) ≡ 0 = rw (drop-cons chunk i 0 h) (first_here _ _ e) in
-      omega (arith, inv)
-
-  pub before_end : length chunk ≤ i → Before chunk at i → i ≡ line_end chunk at
-  unfolding position
-  before_end h inv =
-      let none_left : position is_newline (drop i chunk) ≡ 0 = rw (drop_of_length-le chunk h) in
-      omega (arith, inv)
+-- a place past the chunk has no newline
+pub newline_past : (chunk : List ℕ) (at : ℕ) → length chunk < at → None ≡ newline_at chunk at
+newline_past chunk at h = rw (le-ltb (line_end chunk at) (length chunk) (omega arith))
 
 -- ---- Bytes with a newline, and bytes without
 
 -- the calls where the first newline stands at a place
 abbrev ends_at : Option (List ℕ) → List ℕ → List ℕ → ℕ → List (Option Call)
-ends_at held bytes rest place = said (more held (take place bytes)) ∷ calls_from (some []) (drop (suc place) bytes ++ rest)
+ends_at held bytes rest place = said (more held (take place bytes)) ∷ calls_from (Some []) (drop (suc place) bytes ++ rest)
 
-newline_in : (held : Option (List ℕ)) (bytes rest : List ℕ) → Kept held → position is_newline bytes < length bytes
-    → calls_from held (bytes ++ rest) ≡ ends_at held bytes rest (position is_newline bytes)
+newline_in : (held : Option (List ℕ)) (bytes rest : List ℕ) → Kept held → position_or_len is_newline bytes < length bytes
+    → calls_from held (bytes ++ rest) ≡ ends_at held bytes rest (position_or_len is_newline bytes)
 newline_in held [] rest k h = absurd (omega arith)
 newline_in held (b ∷ bytes) rest k h =
     by_cases (is_newline b)
     (λ e. rw (first_here b bytes e, e, k))
     (λ e.
     let later = first_later b bytes e in
-    let place = position is_newline bytes in
+    let place = position_or_len is_newline bytes in
     let on = newline_in (more held (b ∷ [])) bytes rest (more_stays held (b ∷ [])) (omega arith) in
     rw (later, e)
-    (on ∙ ap (λ o. said o ∷ calls_from (some []) (drop (suc place) bytes ++ rest)) (more_twice held (b ∷ []) (take place bytes))))
+    (on ∙ ap (λ o. said o ∷ calls_from (Some []) (drop (suc place) bytes ++ rest)) (more_twice held (b ∷ []) (take place bytes))))
 
-no_newline_in : (held : Option (List ℕ)) (bytes rest : List ℕ) → Kept held → length bytes ≤ position is_newline bytes
+no_newline_in : (held : Option (List ℕ)) (bytes rest : List ℕ) → Kept held → length bytes ≤ position_or_len is_newline bytes
     → calls_from held (bytes ++ rest) ≡ calls_from (more held bytes) rest
 no_newline_in held [] rest k h = rw k
 no_newline_in held (b ∷ bytes) rest k h =
@@ -91,11 +86,11 @@ no_newline_in held (b ∷ bytes) rest k h =
 
 pub after_join : (held : Option (List ℕ)) (xs ys : List ℕ) → line_after held (xs ++ ys) ≡ line_after (line_after held xs) ys
 after_join held [] ys = refl
-after_join held (b ∷ xs) ys = by_cases (is_newline b) (λ e. rw e (after_join (some []) xs ys)) (λ e. rw e (after_join (more held (b ∷ [])) xs ys))
+after_join held (b ∷ xs) ys = by_cases (is_newline b) (λ e. rw e (after_join (Some []) xs ys)) (λ e. rw e (after_join (more held (b ∷ [])) xs ys))
 
 -- behind the first newline nothing has begun
-after-newline : (held : Option (List ℕ)) (bytes : List ℕ) → position is_newline bytes < length bytes
-    → line_after held (take (suc (position is_newline bytes)) bytes) ≡ some []
+after-newline : (held : Option (List ℕ)) (bytes : List ℕ) → position_or_len is_newline bytes < length bytes
+    → line_after held (take (suc (position_or_len is_newline bytes)) bytes) ≡ Some []
 after-newline held [] h = absurd (omega arith)
 after-newline held (b ∷ bytes) h =
     by_cases (is_newline b)
@@ -103,7 +98,7 @@ after-newline held (b ∷ bytes) h =
     (λ e. let later = first_later b bytes e in rw (later, e) (after-newline (more held (b ∷ [])) bytes (omega arith)))
 
 -- without one the line goes on
-after_none : (held : Option (List ℕ)) (bytes : List ℕ) → Kept held → length bytes ≤ position is_newline bytes → line_after held bytes ≡ more held bytes
+after_none : (held : Option (List ℕ)) (bytes : List ℕ) → Kept held → length bytes ≤ position_or_len is_newline bytes → line_after held bytes ≡ more held bytes
 after_none held [] k h = sym k
 after_none held (b ∷ bytes) k h =
     by_cases (is_newline b)
@@ -114,29 +109,44 @@ after_none held (b ∷ bytes) k h =
 
 -- ---- A chunk from a place on
 
+-- a newline that is found
+line_found : (chunk : List ℕ) (at stop : ℕ) → Some stop ≡ newline_at chunk at → (stop ≡ line_end chunk at) × (stop < length chunk)
+line_found chunk at stop e =
+    by_cases (ltb (line_end chunk at) (length chunk))
+    (λ t. let is : stop ≡ line_end chunk at = some_equal (e ∙ rw t) in (is, omega (arith, is, ltb-true _ _ t)))
+    (λ t. none-some {y = stop} (sym (e ∙ rw t)))
+
 module _ (chunk : List ℕ) (at : ℕ) (held : Option (List ℕ)) where
-  pub next_ends : line_end chunk at < length chunk → next_line chunk at held ≡ some (ended_at chunk at (line_end chunk at) held)
+  pub next_ends : line_end chunk at < length chunk → next_line chunk at held ≡ Some (ended_at chunk at (line_end chunk at) held)
   unfolding next_line
   next_ends h = rw (lt-ltb _ _ h)
 
-  pub next_used : length chunk ≤ line_end chunk at → next_line chunk at held ≡ none
+  pub next_used : length chunk ≤ line_end chunk at → next_line chunk at held ≡ None
   unfolding next_line
   next_used h = rw (le-ltb _ _ h)
 
   -- what is answered where a line ends
-  pub next_answer : (stop : ℕ) (call : Option Call) → stop ≡ line_end chunk at → stop < length chunk
-      → call ≡ said (more held (part chunk at stop)) → some (record { call = call; next = stop + 1 }) ≡ next_line chunk at held
-  next_answer stop call e h says =
-      rw says (ap (λ (n : ℕ). some (ended_at chunk at n held)) e ∙ sym (next_ends (omega arith)))
+  pub next_answer : (stop : ℕ) (call : Option Call) → Some stop ≡ newline_at chunk at
+      → call ≡ said (more held (part chunk at stop)) → Some (record { call = call; next = stop + 1 }) ≡ next_line chunk at held
+  next_answer stop call found says =
+      let end = line_found chunk at stop found in
+      rw says (ap (λ (n : ℕ). Some (ended_at chunk at n held)) end.0 ∙ sym (next_ends (omega (arith, end.0, end.1))))
+
+  -- and where none does
+  pub next_nothing : None ≡ newline_at chunk at → None ≡ next_line chunk at held
+  next_nothing none =
+      by_cases (ltb (line_end chunk at) (length chunk))
+      (λ t. absurd (none-some {y = line_end chunk at} (none ∙ rw t)))
+      (λ t. sym (next_used (ltb-false _ _ t)))
 
   -- what an answer tells of the line's end
-  told_line : (e : Ended) → some e ≡ next_line chunk at held → (line_end chunk at < length chunk) × (e ≡ ended_at chunk at (line_end chunk at) held)
+  told_line : (e : Ended) → Some e ≡ next_line chunk at held → (line_end chunk at < length chunk) × (e ≡ ended_at chunk at (line_end chunk at) held)
   told_line e h =
       by_cases (ltb (line_end chunk at) (length chunk))
       (λ t. let g = ltb-true _ _ t in (g, some_equal (h ∙ next_ends g)))
       (λ t. none-some (sym (next_used (ltb-false _ _ t)) ∙ sym h))
 
-  told_used : none ≡ next_line chunk at held → length chunk ≤ line_end chunk at
+  told_used : None ≡ next_line chunk at held → length chunk ≤ line_end chunk at
   told_used h =
       by_cases (ltb (line_end chunk at) (length chunk))
       (λ t. none-some (h ∙ next_ends (ltb-true _ _ t)))
@@ -145,52 +155,52 @@ module _ (chunk : List ℕ) (at : ℕ) (held : Option (List ℕ)) where
   module _ (k : Kept held) (rest : List ℕ) where
     ends_here : line_end chunk at < length chunk
         → calls_from held (drop at chunk ++ rest)
-        ≡ said (more held (part chunk at (line_end chunk at))) ∷ calls_from (some []) (drop (line_end chunk at + 1) chunk ++ rest)
+        ≡ said (more held (part chunk at (line_end chunk at))) ∷ calls_from (Some []) (drop (line_end chunk at + 1) chunk ++ rest)
     ends_here h =
-        let place = position is_newline (drop at chunk) in
+        let place = position_or_len is_newline (drop at chunk) in
         let back : at + place - at ≡ place = omega arith in
         let behind : at + suc place ≡ at + place + 1 = omega arith in
         newline_in held (drop at chunk) rest k (omega (arith, length-drop at chunk)) ∙ rw (back, drop-drop (suc place) at chunk, behind)
 
-    ends_so : (e : Ended) → some e ≡ next_line chunk at held
-        → calls_from held (drop at chunk ++ rest) ≡ e.call ∷ calls_from (some []) (drop e.next chunk ++ rest)
+    ends_so : (e : Ended) → Some e ≡ next_line chunk at held
+        → calls_from held (drop at chunk ++ rest) ≡ e.call ∷ calls_from (Some []) (drop e.next chunk ++ rest)
     ends_so e h = let t = told_line e h in rw t.1 (ends_here t.0)
 
-    goes_on : none ≡ next_line chunk at held → calls_from held (drop at chunk ++ rest) ≡ calls_from (more held (drop at chunk)) rest
+    goes_on : None ≡ next_line chunk at held → calls_from held (drop at chunk ++ rest) ≡ calls_from (more held (drop at chunk)) rest
     goes_on h = no_newline_in held (drop at chunk) rest k (omega (arith, told_used h, length-drop at chunk))
 
 -- ---- For a loop over a chunk: what the contracts of `next_line` and `carried` say of the calls that are left
 module _ (chunk : List ℕ) (at : ℕ) (carry : Carry) where
   -- a line's end is behind the place, and in the chunk
-  pub line_moves : (call : Spoken) (behind : ℕ) → shown (Line call behind) ≡ next_line chunk at (begun carry) → (at < behind) × (behind ≤ length chunk)
-  line_moves call behind h =
-      let t = told_line chunk at (begun carry) (record { call = meaning call; next = behind }) h in
+  pub line_moves : (line : Line) → shown (Some line) ≡ next_line chunk at (begun carry) → (at < line.at) × (line.at ≤ length chunk)
+  line_moves line h =
+      let t = told_line chunk at (begun carry) (record { call = meaning line.call; next = line.at }) h in
       let n = ap (λ (x : Ended). x.next) t.1 in
       (omega (arith, t.0), omega (arith, t.0))
 
   -- its call is the first, and the others are those from the place behind it
-  pub line_ends : (call : Spoken) (behind : ℕ) (rest : List ℕ) → shown (Line call behind) ≡ next_line chunk at (begun carry)
-      → calls_from (begun carry) (drop at chunk ++ rest) ≡ meaning call ∷ calls_from (some []) (drop behind chunk ++ rest)
-  line_ends call behind rest h = ends_so chunk at (begun carry) (begun_kept carry) rest (record { call = meaning call; next = behind }) h
+  pub line_ends : (line : Line) (rest : List ℕ) → shown (Some line) ≡ next_line chunk at (begun carry)
+      → calls_from (begun carry) (drop at chunk ++ rest) ≡ meaning line.call ∷ calls_from (Some []) (drop line.at chunk ++ rest)
+  line_ends line rest h = ends_so chunk at (begun carry) (begun_kept carry) rest (record { call = meaning line.call; next = line.at }) h
 
   -- the chunk is used up: they are those from the line so far
-  pub line_goes_on : (held : Carry) (rest : List ℕ) → shown Used ≡ next_line chunk at (begun carry) → begun held ≡ more (begun carry) (drop at chunk)
+  pub line_goes_on : (held : Carry) (rest : List ℕ) → shown None ≡ next_line chunk at (begun carry) → begun held ≡ more (begun carry) (drop at chunk)
       → calls_from (begun carry) (drop at chunk ++ rest) ≡ calls_from (begun held) rest
   line_goes_on held rest h e = goes_on chunk at (begun carry) (begun_kept carry) rest h ∙ ap (λ o. calls_from o rest) (sym e)
 
   -- what is held, from a line so far at the chunk's start: nothing behind a line's end
-  pub line_after_lem : (call : Spoken) (behind : ℕ) → shown (Line call behind) ≡ next_line chunk at (begun carry) → (start : Option (List ℕ))
-      → line_after start (take behind chunk) ≡ some []
-  line_after_lem call behind h start =
-      let t = told_line chunk at (begun carry) (record { call = meaning call; next = behind }) h in
-      let place = position is_newline (drop at chunk) in
-      let n : behind ≡ at + suc place = ap (λ (x : Ended). x.next) t.1 ∙ omega arith in
+  pub line_after_lem : (line : Line) → shown (Some line) ≡ next_line chunk at (begun carry) → (start : Option (List ℕ))
+      → line_after start (take line.at chunk) ≡ Some []
+  line_after_lem line h start =
+      let t = told_line chunk at (begun carry) (record { call = meaning line.call; next = line.at }) h in
+      let place = position_or_len is_newline (drop at chunk) in
+      let n : line.at ≡ at + suc place = ap (λ (x : Ended). x.next) t.1 ∙ omega arith in
       rw (n, take-add at (suc place) chunk)
       (after_join start (take at chunk) (take (suc place) (drop at chunk))
       ∙ after-newline (line_after start (take at chunk)) (drop at chunk) (omega (arith, t.0, length-drop at chunk)))
 
   -- and at the chunk's end the rest of it behind what was held
-  pub used_after : shown Used ≡ next_line chunk at (begun carry) → (start : Option (List ℕ)) → begun carry ≡ line_after start (take at chunk)
+  pub used_after : shown None ≡ next_line chunk at (begun carry) → (start : Option (List ℕ)) → begun carry ≡ line_after start (take at chunk)
       → more (begun carry) (drop at chunk) ≡ line_after start chunk
   used_after h start e =
       let past = told_used chunk at (begun carry) h in

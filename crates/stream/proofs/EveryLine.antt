@@ -1,7 +1,7 @@
 -- Every line of an input says its call, once, however the input is cut into chunks.
 use Prim.Native.Nat.{ℕ}
 use mathlib.Core.Path.{◌≡◌, sym, ap, ◌∙◌}
-use mathlib.Core.Option.{Option, some}
+use Rattle.std.specs.Prelude.{Option, Some}
 use mathlib.Core.List.{List, [], ◌∷◌, ◌++◌, map, append-nil, append_assoc}
 use native.Mathlib.Omega.{arith}
 use lib.Dec.{leb}
@@ -47,22 +47,22 @@ pub calls_held : (carry : Carry) (line rest : List ℕ) → Plain line → Holds
 calls_held carry line rest p h = ap (λ o. calls_from o rest) h ∙ calls-after line rest p
 
 -- a whole input
-pub calls-lines : (input : List ℕ) → calls_from (some []) input ≡ map call_of (lines input)
+pub calls-lines : (input : List ℕ) → calls_from (Some []) input ≡ map call_of (lines input)
 calls-lines input = ap (λ o. calls_from o input) (sym (kept_short [] (omega arith))) ∙ calls-after [] input tt
 
 -- ---- Chunk by chunk
 
 pub fed : {carry : Carry} {chunk : List ℕ} {at : ℕ} {chunks : List (List ℕ)} {calls : List (Option Call)}
     → Feeding carry chunk at chunks calls → calls ≡ calls_from (begun carry) (drop at chunk ++ joined chunks)
-fed (ends {carry} {fresh} {chunk} {at} {chunks} {calls} call behind told new f) =
-    ap (λ rest. meaning call ∷ rest) (fed f ∙ ap (λ o. calls_from o (drop behind chunk ++ joined chunks)) new)
-    ∙ sym (line_ends chunk at carry call behind (joined chunks) told)
+fed (ends {carry} {fresh} {chunk} {at} {chunks} {calls} line told new f) =
+    ap (λ rest. meaning line.call ∷ rest) (fed f ∙ ap (λ o. calls_from o (drop line.at chunk ++ joined chunks)) new)
+    ∙ sym (line_ends chunk at carry line (joined chunks) told)
 fed (further {carry} {held} {chunk} {another} {at} {chunks} {calls} told new f) =
     fed f ∙ sym (line_goes_on chunk at carry held (another ++ joined chunks) told new)
 fed (stops {carry} {chunk} {at} held l told new last) = last ∙ sym (line_goes_on chunk at carry held [] told new)
 
 -- however an input is cut into chunks, what comes out is the call of each of its lines, in order
 pub every_line : {carry : Carry} {chunk : List ℕ} {chunks : List (List ℕ)} {calls : List (Option Call)}
-    → begun carry ≡ some [] → Feeding carry chunk 0 chunks calls → calls ≡ map call_of (lines (joined (chunk ∷ chunks)))
+    → begun carry ≡ Some [] → Feeding carry chunk 0 chunks calls → calls ≡ map call_of (lines (joined (chunk ∷ chunks)))
 every_line {carry} {chunk} {chunks} e f =
     fed f ∙ ap (λ o. calls_from o (chunk ++ joined chunks)) e ∙ calls-lines (chunk ++ joined chunks)

@@ -1,1 +1,2 @@
-pub mod OutcomeLaws
+pub mod KindLaws
+pub mod PartLaws

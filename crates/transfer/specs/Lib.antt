@@ -1,5 +1,3 @@
-pub mod Content
-pub mod Counts
 pub mod Opened
 pub mod Outcome
 pub mod Why

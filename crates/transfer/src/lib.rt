@@ -2,188 +2,106 @@
 #![tactic(auto)]
 
 pub mod file;
-mod opened;
 pub mod outcome;
 mod pause;
 #[cfg(test)]
 mod tests;
 pub mod why;
 
-ghost use Rattle.std.specs.Prelude.{◌≡◌, true, false, ◌≤◌, ◌<◌, length, take, IsTrue, IsSome, OnOk, IfErr, Some};
-ghost use Rattle.std.specs.Io.KnownBytes.{Appends, Consumes, IsAtEnd};
-ghost use Rattle.transfer.specs.Counts.{IsPrefixLen};
-ghost use Rattle.transfer.specs.Outcome.{moved_by};
+ghost use Rattle.std.specs.Prelude.{◌≡◌, ◌<◌, length, take, IfOk, IfErr, MatchResult};
+ghost use Rattle.std.specs.Io.{ReadsAtMost, WritesAtMost};
+ghost use Rattle.std.specs.Io.KnownBytes.{Appends, Consumes, IsAtEnd, ReadConsumes, WriteAppends};
 
-use outcome::Outcome;
+use outcome::settled;
 use std::io;
 use std::io::{Read, Write};
 use std::rt::Clock;
 
-// How many bytes a call moved; whether it failed, and whether it is then made again.
-#[derive(Clone, Copy)]
-pub struct Moved {
-    pub count: usize,
-    pub failed: bool,
-    pub again: bool,
-}
+// A proved loop has to end, so each has a number of tries that no run uses up. A read, a write and a sync have a loop each: of what a
+// closure borrows a proof knows nothing after its call (tried, docs/DECISIONS.md).
 
-pub fn succeeded(count: usize) -> Moved
-    ensures { result ≡ record { count = count; failed = false; again = false } }
-{
-    Moved {
-        count: count,
-        failed: false,
-        again: false,
-    }
-}
-
-fn failed(again: bool) -> Moved
-    ensures { result ≡ record { count = 0; failed = true; again = again } }
-{
-    Moved {
-        count: 0,
-        failed: true,
-        again: again,
-    }
-}
-
-// What is known of a call after it; waits where it would have blocked.
-#[tactic(auto, unfolding(crate::specs::Outcome::moved_by))]
-pub fn settled<C: Clock>(clock: &C, outcome: Outcome) -> Moved
-    ensures { result ≡ moved_by outcome }
-{
-    match outcome {
-        Outcome::Moved(n) => succeeded(n),
-        Outcome::AtOnce => failed(true),
-        Outcome::AfterPause => {
-            pause::wait(clock);
-            failed(true)
-        }
-        Outcome::Never => failed(false),
-    }
-}
-
-// Keeps the error of a call that failed.
-fn keep_error(answer: io::Result<usize>, error: &mut Option<io::Error>)
-    ensures ok { OnOk answer (error.new ≡ error.old) }
-    ensures err { IfErr answer (λ e. error.new ≡ Some e) }
-{
-    if let Err(e) = answer {
-        *error = Some(e);
-    }
-}
-
-// ---- Reads: each puts the error of the last call that failed into `error`
-
-// One call, whatever comes of it.
-fn try_read<C: Clock, R: Read>(
-    clock: &C,
-    reader: &mut R,
-    buf: &mut [u8],
-    error: &mut Option<io::Error>,
-) -> Moved
-    ensures count { result.count ≤ length buf.new }
-    ensures bytes { Consumes (R.remaining reader.old) (R.remaining reader.new) (take result.count buf.new) }
-    ensures end { result.failed ≡ false → result.count ≡ 0 → 0 < length buf.new → IsAtEnd (R.remaining reader.new) }
-    ensures named { IsTrue result.failed → IsSome error.new }
-    ensures again { IsTrue result.again → result.count ≡ 0 }
-{
-    let answer = reader.read(buf);
-    keep_error(answer, error);
-    let outcome = outcome::outcome_by(answer, buf);
-    settled(clock, outcome)
-}
+// ---- Reads
 
 // One read of whatever is there: 0 bytes are the input's end.
-pub fn read_some<C: Clock, R: Read>(
-    clock: &C,
-    reader: &mut R,
-    buf: &mut [u8],
-    error: &mut Option<io::Error>,
-) -> Moved
-    ensures count { IsPrefixLen result.count buf.new }
-    ensures bytes { Consumes (R.remaining reader.old) (R.remaining reader.new) (take result.count buf.new) }
-    ensures end { result.failed ≡ false → result.count ≡ 0 → 0 < length buf.new → IsAtEnd (R.remaining reader.new) }
-    ensures named { IsTrue result.failed → IsSome error.new }
+pub fn read_some<C: Clock, R: Read>(clock: &C, reader: &mut R, buf: &mut [u8]) -> io::Result<usize>
+    ensures count { ReadsAtMost result buf.new }
+    ensures bytes { ReadConsumes (R.remaining reader.old) (R.remaining reader.new) result buf.new }
 {
-    let mut got = try_read(clock, reader, buf, error);
-    let mut turns = u64::MAX;
-    while turns > 0 && got.again {
-        got = try_read(clock, reader, buf, error);
-        turns -= 1;
+    for _ in 0..u64::MAX {
+        match reader.read(buf) {
+            Ok(n) => return Ok(n),
+            Err(error) => settled(clock, error)?,
+        }
     }
-    got
+    reader.read(buf)
 }
 
 // Reads until the buffer is full or the input ends.
-pub fn read_full<C: Clock, R: Read>(
-    clock: &C,
-    reader: &mut R,
-    buf: &mut [u8],
-    error: &mut Option<io::Error>,
-) -> Moved
-    ensures count { IsPrefixLen result.count buf.new }
-    ensures bytes { result.failed ≡ false → Consumes (R.remaining reader.old) (R.remaining reader.new) (take result.count buf.new) }
-    ensures end { result.failed ≡ false → result.count < length buf.new → IsAtEnd (R.remaining reader.new) }
-    ensures named { IsTrue result.failed → IsSome error.new }
+#[tactic(auto, using(crate::proofs::PartLaws::consumes_next))]
+pub fn read_full<C: Clock, R: Read>(clock: &C, reader: &mut R, buf: &mut [u8]) -> io::Result<usize>
+    ensures count { ReadsAtMost result buf.new }
+    ensures bytes { IfOk result (λ n. Consumes (R.remaining reader.old) (R.remaining reader.new) (take n buf.new)) }
+    ensures end { IfOk result (λ n. n < length buf.new → IsAtEnd (R.remaining reader.new)) }
 {
     let mut done: usize = 0;
+    // Each turn goes on by as many bytes as a read gave, which no range or iterator does.
     while done < buf.len() {
-        let got = read_some(clock, reader, &mut buf[done..], error);
-        if got.failed {
-            return failed(false);
+        match read_some(clock, reader, &mut buf[done..])? {
+            0 => return Ok(done),
+            n => done += n,
         }
-        if got.count == 0 {
-            return succeeded(done);
-        }
-        done += got.count;
     }
-    succeeded(done)
+    Ok(done)
 }
 
-// ---- Writes, likewise
+// ---- Writes
 
-// One call, whatever comes of it. A write that takes nothing counts as one that would block.
-fn try_write<C: Clock, W: Write>(
-    clock: &C,
-    writer: &mut W,
-    bytes: &[u8],
-    error: &mut Option<io::Error>,
-) -> Moved
-    ensures count { result.count ≤ length bytes.now }
-    ensures bytes { Appends (W.contents writer.old) (W.contents writer.new) (take result.count bytes.now) }
-    ensures named { IsTrue result.failed → IsSome error.new }
-    ensures moved { result.failed ≡ false → 0 < length bytes.now → 0 < result.count }
-    ensures failed { IsTrue result.failed → result.count ≡ 0 }
-    ensures kept { result.failed ≡ false → error.new ≡ error.old }
-{
-    let put = writer.write(bytes);
-    let answer = outcome::or_would_block(put);
-    keep_error(answer, error);
-    let outcome = outcome::outcome_by(answer, bytes);
-    settled(clock, outcome)
+// A write that failed for good: how many bytes were written before it, and why it failed.
+#[derive(Clone, Copy, Debug)]
+pub struct Stopped {
+    pub written: usize,
+    pub error: io::Error,
 }
 
-// Writes the bytes, and tells how many it could: all of them, unless a write fails for good.
-pub fn write_all<C: Clock, W: Write>(
-    clock: &C,
-    writer: &mut W,
-    bytes: &[u8],
-    error: &mut Option<io::Error>,
-) -> usize
-    ensures count { result ≤ length bytes.now }
-    ensures bytes { Appends (W.contents writer.old) (W.contents writer.new) (take result bytes.now) }
-    ensures named { result < length bytes.now → IsSome error.new }
-{
-    let mut done: usize = 0;
-    let mut turns = u64::MAX;
-    while turns > 0 && done < bytes.len() {
-        let put = try_write(clock, writer, &bytes[done..], error);
-        if put.failed && !put.again {
-            return done;
-        }
-        done += put.count;
-        turns -= 1;
+impl From<Stopped> for io::Error {
+    ghost from_gives = { λ stopped error. error ≡ stopped.error };
+
+    fn from(stopped: Stopped) -> io::Error {
+        stopped.error
     }
-    done
+}
+
+// One write of a byte at least. One that takes nothing counts as one that would block.
+fn write_some<C: Clock, W: Write>(clock: &C, writer: &mut W, bytes: &[u8]) -> io::Result<usize>
+    ensures count { WritesAtMost result bytes.now }
+    ensures bytes { WriteAppends (W.contents writer.old) (W.contents writer.new) result bytes.now }
+    ensures moved { IfOk result (λ n. 0 < n) }
+{
+    for _ in 0..u64::MAX {
+        match writer.write(bytes) {
+            Ok(0) => pause::wait(clock),
+            Ok(n) => return Ok(n),
+            Err(error) => settled(clock, error)?,
+        }
+    }
+    Err(io::Error::from(io::ErrorKind::WouldBlock))
+}
+
+// Writes all of the bytes, unless a write fails for good.
+#[tactic(auto, using(crate::proofs::PartLaws::appends_next))]
+pub fn write_all<C: Clock, W: Write>(clock: &C, writer: &mut W, bytes: &[u8]) -> Result<(), Stopped>
+    ensures count { IfErr result (λ stopped. stopped.written < length bytes.now) }
+    ensures bytes { MatchResult result
+        (λ _. Appends (W.contents writer.old) (W.contents writer.new) bytes.now)
+        (λ stopped. Appends (W.contents writer.old) (W.contents writer.new) (take stopped.written bytes.now)) }
+{
+    let mut written: usize = 0;
+    // As in `read_full`.
+    while written < bytes.len() {
+        match write_some(clock, writer, &bytes[written..]) {
+            Ok(n) => written += n,
+            Err(error) => return Err(Stopped { written, error }),
+        }
+    }
+    Ok(())
 }

@@ -1,6 +1,7 @@
 // A reader, a writer and a clock that answer by plan: what is made again, after how long a pause, and which error is told.
 ghost use Rattle.std.specs.Prelude.{◌≤◌, IfOk};
 
+use crate::outcome::Retry;
 use crate::{read_full, read_some, write_all};
 use std::cell::Cell;
 use std::io;
@@ -95,11 +96,8 @@ fn interrupted_reads_are_made_again_at_once(rt: HostRuntime) -> Result<(), Fail>
         answers: [INTERRUPTED, INTERRUPTED, Answer::Most(3), FAILED, END, END],
         calls: 0,
     };
-    let mut error = None;
     let mut buf = [0u8; 8];
-    let got = read_some(&clock, &mut reader, &mut buf, &mut error);
-    assert!(rt; !got.failed);
-    assert_eq!(rt; got.count, 3);
+    assert_eq!(rt; read_some(&clock, &mut reader, &mut buf)?, 3);
     assert_eq!(rt; reader.calls, 3);
     assert_eq!(rt; clock.waited.get(), 0);
     Ok(())
@@ -119,11 +117,8 @@ fn reads_that_would_block_are_made_again_after_a_pause(rt: HostRuntime) -> Resul
         ],
         calls: 0,
     };
-    let mut error = None;
     let mut buf = [0u8; 8];
-    let got = read_full(&clock, &mut reader, &mut buf, &mut error);
-    assert!(rt; !got.failed);
-    assert_eq!(rt; got.count, 5);
+    assert_eq!(rt; read_full(&clock, &mut reader, &mut buf)?, 5);
     assert_eq!(rt; reader.calls, 5);
     assert_eq!(rt; clock.waited.get(), 10);
     Ok(())
@@ -136,13 +131,12 @@ fn a_read_that_fails_is_not_the_end(rt: HostRuntime) -> Result<(), Fail> {
         answers: [Answer::Most(3), FAILED, Answer::Most(5), END, END, END],
         calls: 0,
     };
-    let mut error = None;
     let mut buf = [0u8; 8];
-    let got = read_full(&clock, &mut reader, &mut buf, &mut error);
-    assert!(rt; got.failed);
-    assert!(rt; !got.again);
+    let read = read_full(&clock, &mut reader, &mut buf);
+    let error = read.err().ok_or("no error is told")?;
+    assert_eq!(rt; Retry::after(error), None);
     assert_eq!(rt; reader.calls, 2);
-    assert_eq!(rt; error.ok_or("no error is told")?.raw_os_error(), Some(5));
+    assert_eq!(rt; error.raw_os_error(), Some(5));
     Ok(())
 }
 
@@ -160,8 +154,7 @@ fn writes_go_on_until_all_is_written(rt: HostRuntime) -> Result<(), Fail> {
         ],
         calls: 0,
     };
-    let mut error = None;
-    assert_eq!(rt; write_all(&clock, &mut writer, b"12345678", &mut error), 8);
+    write_all(&clock, &mut writer, b"12345678")?;
     assert_eq!(rt; writer.calls, 6);
     assert_eq!(rt; clock.waited.get(), 10);
     Ok(())
@@ -174,9 +167,10 @@ fn a_write_that_fails_ends_them(rt: HostRuntime) -> Result<(), Fail> {
         answers: [Answer::Most(3), FAILED, Answer::Most(9), END, END, END],
         calls: 0,
     };
-    let mut error = None;
-    assert_eq!(rt; write_all(&clock, &mut writer, b"12345678", &mut error), 3);
+    let written = write_all(&clock, &mut writer, b"12345678");
+    let stopped = written.err().ok_or("no error is told")?;
+    assert_eq!(rt; stopped.written, 3);
     assert_eq!(rt; writer.calls, 2);
-    assert_eq!(rt; error.ok_or("no error is told")?.raw_os_error(), Some(5));
+    assert_eq!(rt; stopped.error.raw_os_error(), Some(5));
     Ok(())
 }

@@ -14,11 +14,13 @@ const NUMBER: &str = " (os error ";
 const MOST_TEXT: usize = 256;
 
 // Writes the bytes up to the first call that fails or takes nothing, and tells how many it wrote: nothing waits.
+#[tactic(auto, using(crate::proofs::PartLaws::appends_next))]
 fn write_at_once<W: Write>(writer: &mut W, bytes: &[u8]) -> usize
     ensures count { result ≤ length bytes.now }
     ensures bytes { Appends (W.contents writer.old) (W.contents writer.new) (take result bytes.now) }
 {
     let mut done: usize = 0;
+    // Each turn goes on by as many bytes as a write took, which no range or iterator does.
     while done < bytes.len() {
         match writer.write(&bytes[done..]) {
             Ok(0) | Err(_) => return done,

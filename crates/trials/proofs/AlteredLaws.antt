@@ -13,9 +13,12 @@ use Rattle.literal.specs.declared.Env.{Env}
 use Rattle.literal.specs.Literal.{is_ground, same, opposite}
 use Rattle.belief.specs.declared.Beliefs.{Beliefs}
 use Rattle.belief.specs.declared.Change.{Change}
+use Rattle.belief.specs.declared.Effect.{Effect}
+use Rattle.belief.specs.declared.Effect.TheVariants as effect
+use Rattle.belief.specs.declared.Effect.TheVariants.{Nothing, Impossible, Replaced}
 use Rattle.belief.specs.declared.Applied.{Applied}
 use Rattle.belief.specs.Beliefs.{view, holds, plus, minus, fits, replay}
-use Rattle.belief.specs.Table.{add, remove_by, remove}
+use Rattle.belief.specs.Table.{fitted, changed, cleared, add, remove_by, remove}
 use Rattle.belief.proofs.BeliefLaws.{add-view, add_fitted, add_unfitted, add-changed, add_cleared, add-few, remove-view, replay_join}
 use Rattle.library.specs.declared.Action.{Action}
 use Rattle.library.specs.Plan.{no_action}
@@ -25,13 +28,20 @@ use Rattle.model.specs.Try.{is_possible}
 use Rattle.trials.specs.declared.changes.Altered.{Altered}
 use Rattle.trials.specs.Altered.{changes_of, untouched, removal, made_by, noted_one, Alters, Within, Extends, Changed}
 
+-- what is not impossible had room
+pub fitted_otherwise : (e : Effect) → (e ≡ Impossible → ⊥) → fitted e ≡ true
+fitted_otherwise Nothing h = refl
+fitted_otherwise Impossible h = absurd (h refl)
+fitted_otherwise effect.Changed h = refl
+fitted_otherwise Replaced h = refl
+
 -- ---- One change
 
 module _ (b : Beliefs) (c : Change) where
   abbrev l : Literal
   l = c.literal
 
-  pub change_open : is_ground c.literal ≡ false → Changed b c (record { table = b; changed = false; fitted = false; cleared = false })
+  pub change_open : is_ground c.literal ≡ false → Changed b c (record { table = b; effect = Impossible })
   unfolding is_possible effective replay
   change_open g = record { possible = rw g; effect = rw g; table = rw g; few = λ few. few }
 
@@ -53,15 +63,15 @@ module _ (b : Beliefs) (c : Change) where
       removed_by : (held : Bool) → holds (view b) l ≡ held → (place : ℕ) → remove b l ≡ remove_by held place b → Changed b c (remove b l)
       unfolding is_possible replay remove
       removed_by held p place e = record {
-        possible = ap (λ (x : Applied). x.fitted) e ∙ fitted held ∙ rw (g, r);
+        possible = ap (λ (x : Applied). fitted x.effect) e ∙ room held ∙ rw (g, r);
         effect = ap (made_by c) e ∙ made held ∙ ap (λ (q : Bool). when q c) (sym p) ∙ sym (removed_effect r);
         table = table held p ∙ ap (λ (q : Bool). replay (view b) (when q c)) (sym p) ∙ ap (replay (view b)) (sym (removed_effect r));
         few = λ few. rw e (counted held few);
       }
         where
-          fitted : (q : Bool) → (remove_by q place b).fitted ≡ true
-          fitted true = refl
-          fitted false = refl
+          room : (q : Bool) → fitted (remove_by q place b).effect ≡ true
+          room true = refl
+          room false = refl
 
           made : (q : Bool) → made_by c (remove_by q place b) ≡ when q c
           made true = refl
@@ -94,14 +104,14 @@ module _ (b : Beliefs) (c : Change) where
           counts : (is_ground l && cond c.removes (holds (view b) l) (not (holds (view b) l) && fits (view b) l)) ≡ (not held && room)
           counts = rw (g, r, p, q)
 
-      added_made : (held room : Bool) → holds (view b) l ≡ held → (add b l).fitted ≡ room → made_by c (add b l) ≡ cond (not held && room) (clearing (view b) c ++ (c ∷ [])) []
+      added_made : (held room : Bool) → holds (view b) l ≡ held → fitted (add b l).effect ≡ room → made_by c (add b l) ≡ cond (not held && room) (clearing (view b) c ++ (c ∷ [])) []
       unfolding clearing
       added_made held room p q = go held room (add-changed b len l ∙ ap₂ (λ (x y : Bool). x && not y) q p)
         where
           by : Bool → List Change
-          by x = cond x (when (add b l).cleared (removal (opposite l)) ++ (c ∷ [])) []
+          by x = cond x (when (cleared (add b l).effect) (removal (opposite l)) ++ (c ∷ [])) []
 
-          go : (held room : Bool) → (add b l).changed ≡ (room && not held)
+          go : (held room : Bool) → changed (add b l).effect ≡ (room && not held)
               → made_by c (add b l) ≡ cond (not held && room) (when (not c.removes && holds (view b) (opposite l)) (removal (opposite l)) ++ (c ∷ [])) []
           go true true e = ap by e
           go true false e = ap by e
@@ -110,7 +120,7 @@ module _ (b : Beliefs) (c : Change) where
               ap by e
               ∙ ap (λ (x : Bool). when x (removal (opposite l)) ++ (c ∷ [])) (add_cleared b len l ∙ ap (λ (x : Bool). x && holds (view b) (opposite l)) e ∙ ap (λ (x : Bool). not x && holds (view b) (opposite l)) (sym r))
 
-      added-table : (held room : Bool) → holds (view b) l ≡ held → (add b l).fitted ≡ room
+      added-table : (held room : Bool) → holds (view b) l ≡ held → fitted (add b l).effect ≡ room
           → view (add b l).table ≡ replay (view b) (cond (not held && room) (clearing (view b) c ++ (c ∷ [])) [])
       unfolding replay add
       added-table true room p q = ap view (stays p)
@@ -124,7 +134,7 @@ module _ (b : Beliefs) (c : Change) where
       unfolding is_possible
       change-adds =
           let held = holds (view b) l in
-          let room = (add b l).fitted in
+          let room = fitted (add b l).effect in
           let effect = added_effect held room refl (sym (add_fitted b len l)) in
           record {
             possible = add_fitted b len l ∙ rw (g, r);
@@ -156,13 +166,13 @@ module _ (t : Altered) (c : Change) (applied : Applied) (h : Changed t.table c a
     count = k;
   }
 
-  pub noted-none : applied.changed ≡ false → Extends t (effective (view t.table) c) moved
+  pub noted-none : changed applied.effect ≡ false → Extends t (effective (view t.table) c) moved
   noted-none p = extends moved [] refl (rw p) (sym (append-nil (changes_of t))) (omega arith)
 
-  pub noted_one_lem : applied.changed ≡ true → applied.cleared ≡ false → (r : Altered) → r ≡ noted_one moved c → Extends t (effective (view t.table) c) r
+  pub noted_one_lem : changed applied.effect ≡ true → cleared applied.effect ≡ false → (r : Altered) → r ≡ noted_one moved c → Extends t (effective (view t.table) c) r
   noted_one_lem p q r e = rw e (extends (noted_one moved c) (c ∷ []) refl (rw (p, q)) (noted_more moved c len (omega arith)) (omega arith))
 
-  pub noted_two : applied.changed ≡ true → applied.cleared ≡ true → (first r : Altered) → first ≡ noted_one moved (removal (opposite c.literal)) → r ≡ noted_one first c
+  pub noted_two : changed applied.effect ≡ true → cleared applied.effect ≡ true → (first r : Altered) → first ≡ noted_one moved (removal (opposite c.literal)) → r ≡ noted_one first c
       → Extends t (effective (view t.table) c) r
   noted_two p q first r e f =
       let gone = removal (opposite c.literal) in

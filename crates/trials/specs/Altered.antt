@@ -1,17 +1,20 @@
 -- What a list of actions and a change make of the belief table (document 01, "The three calls": effective changes, action lists).
-use Rattle.std.specs.Prelude.{min, ◌+◌, ◌≤◌, ◌≡◌, Bool, true, false, cond, List, [], ◌∷◌, ◌++◌, take, set, replicate}
+use Rattle.std.specs.Prelude.{min, ◌+◌, ◌≤◌, ◌≡◌, true, false, cond, List, [], ◌∷◌, ◌++◌, take, set, replicate}
 use Rattle.literal.specs.declared.Literal.{Literal}
 use Rattle.literal.specs.Literal.{opposite}
 use Rattle.belief.specs.declared.Beliefs.{Beliefs}
 use Rattle.belief.specs.declared.Change.{Change}
 use Rattle.belief.specs.declared.Applied.{Applied}
 use Rattle.belief.specs.Beliefs.{most_beliefs, view, replay}
+use Rattle.belief.specs.Table.{fitted, changed, cleared}
 use Rattle.library.specs.declared.Action.{Action}
 use Rattle.library.specs.Plan.{Plan, no_literal}
 use Rattle.model.specs.State.{most_changes}
 use Rattle.model.specs.Changes.{when, effective}
 use Rattle.model.specs.Try.{is_possible}
 use Rattle.trials.specs.declared.changes.Altered.{Altered}
+use Rattle.trials.specs.declared.changes.Ending.{Ending}
+use Rattle.trials.specs.declared.changes.Ending.TheVariants.{Success, Failure}
 
 -- what stands where no change is
 abbrev pub no_change : Change
@@ -55,15 +58,16 @@ removal l = record { removes = true; literal = l }
 
 -- the changes that an add or a removal made: the change itself, behind that of the opposite
 abbrev pub made_by : Change → Applied → List Change
-made_by c r = cond r.changed (when r.cleared (removal (opposite c.literal)) ++ (c ∷ [])) []
+made_by c r = cond (changed r.effect) (when (cleared r.effect) (removal (opposite c.literal)) ++ (c ∷ [])) []
 
 -- one change: whether it was possible, whether it took effect, and the table after it
 pub record Changed (beliefs : Beliefs) (c : Change) (r : Applied) : Type 0 where
-  pub possible : r.fitted ≡ is_possible (view beliefs) c
+  pub possible : fitted r.effect ≡ is_possible (view beliefs) c
   pub effect : made_by c r ≡ effective (view beliefs) c
   pub table : view r.table ≡ replay (view beliefs) (effective (view beliefs) c)
   pub few : beliefs.count ≤ most_beliefs → r.table.count ≤ most_beliefs
 
 -- a plan's success or failure list; no accepted library has a longer one than there is room for changes
-abbrev pub list_of : Bool → Plan → List Action
-list_of succeeds plan = cond succeeds plan.success plan.failure
+abbrev pub list_of : Ending → Plan → List Action
+list_of Success plan = plan.success
+list_of Failure plan = plan.failure

@@ -1,5 +1,5 @@
 // Belief changes: one change, and the actions of a plan's success or failure list.
-ghost use Rattle.std.specs.Prelude.{◌≡◌, ◌+◌, ◌<◌, ◌≤◌, min, length, take, get_or};
+ghost use Rattle.std.specs.Prelude.{◌≡◌, ◌+◌, ◌<◌, ◌≤◌, length, take, get_or};
 ghost use Rattle.belief.specs.Beliefs.{view};
 ghost use Rattle.library.specs.Layout.{plan_of};
 ghost use Rattle.library.specs.Plan.{no_action};
@@ -7,15 +7,13 @@ ghost use Rattle.model.specs.State.{most_actions, most_changes};
 ghost use Rattle.model.specs.Changes.{change_of, effective, as_change, effects};
 ghost use Rattle.trials.specs.Altered.{no_change, untouched, noted_one, Alters, Extends, Changed, list_of};
 
-use belief::{Applied, Beliefs, Change};
+use belief::{Applied, Beliefs, Change, Effect};
+use library::kinds::Deed;
 use library::{Action, plan};
 use literal::{Env, Literal};
 use model::{MOST_ACTIONS, MOST_CHANGES};
 
-// A kind of change: 0 adds, 1 removes.
-const REMOVE: u16 = 1;
-
-// A belief table after some changes, and those that took effect, the first `count` of the array.
+// A belief table after some changes, and those that took effect, the first `count` of the array: memory is fixed.
 #[derive(Clone, Copy)]
 pub struct Altered {
     pub table: Beliefs,
@@ -23,16 +21,44 @@ pub struct Altered {
     pub count: usize,
 }
 
+// How a plan ended: its success or its failure list runs.
+#[derive(Clone, Copy, PartialEq, Eq)]
+pub enum Ending {
+    Success,
+    Failure,
+}
+
+impl Ending {
+    fn count(self, library: &[u8], plan: usize) -> u16
+        ensures { result ≡ length (list_of self (plan_of library.now plan)) }
+    {
+        match self {
+            Ending::Success => plan::success_count(library, plan),
+            Ending::Failure => plan::failure_count(library, plan),
+        }
+    }
+
+    fn action(self, library: &[u8], plan: usize, place: usize) -> Action
+        ensures { result ≡ get_or (list_of self (plan_of library.now plan)) place no_action }
+    {
+        match self {
+            Ending::Success => plan::success_action(library, plan, place),
+            Ending::Failure => plan::failure_action(library, plan, place),
+        }
+    }
+}
+
+// A change by its kind: a number, since an enum would ask callers for a kind that a library's bytes may not have.
 pub fn change_of(kind: u16, l: Literal) -> Change
     ensures { result ≡ change_of kind l }
 {
     Change {
-        removes: kind == REMOVE,
+        removes: matches!(Deed::try_from(kind), Ok(Deed::Remove)),
         literal: l,
     }
 }
 
-// The table after a change, whether it took effect and whether it was possible.
+// The table after a change, and what that did: nothing is possible with a literal that is not ground.
 pub(crate) fn with_change(b: Beliefs, c: Change) -> Applied
     ensures { Changed b c result }
 {
@@ -40,9 +66,7 @@ pub(crate) fn with_change(b: Beliefs, c: Change) -> Applied
     if !literal::is_ground(l) {
         return Applied {
             table: b,
-            changed: false,
-            fitted: false,
-            cleared: false,
+            effect: Effect::Impossible,
         };
     }
     if c.removes {
@@ -55,10 +79,9 @@ pub(crate) fn with_change(b: Beliefs, c: Change) -> Applied
 pub fn no_change() -> Change
     ensures { result ≡ no_change }
 {
-    let nothing = library::bytes::no_literal();
     Change {
         removes: false,
-        literal: nothing,
+        literal: library::bytes::no_literal(),
     }
 }
 
@@ -66,24 +89,21 @@ pub fn no_change() -> Change
 pub fn unaltered(b: Beliefs) -> Altered
     ensures { result ≡ untouched b }
 {
-    let nothing = no_change();
     Altered {
         table: b,
-        changes: [nothing; MOST_CHANGES],
+        changes: [no_change(); MOST_CHANGES],
         count: 0,
     }
 }
 
 // One change more is noted.
-fn with_noted(t: Altered, c: Change) -> Altered
+fn with_noted(mut t: Altered, c: Change) -> Altered
     requires { t.count < most_changes }
     ensures { result ≡ noted_one t c }
 {
-    let n = t.count;
-    let mut next = t;
-    next.changes[n] = c;
-    next.count = n + 1;
-    next
+    t.changes[t.count] = c;
+    t.count += 1;
+    t
 }
 
 // The table after the change, which is noted if it took effect, behind the removal of an add's opposite.
@@ -91,22 +111,22 @@ pub(crate) fn noted(t: Altered, c: Change, applied: Applied) -> Altered
     requires { (t.count + 2 ≤ most_changes) × Changed t.table c applied }
     ensures { Extends t (effective (view t.table) c) result }
 {
-    let table = applied.table;
-    let next = Altered { table: table, ..t };
-    if !applied.changed {
-        return next;
-    }
-    if !applied.cleared {
-        return with_noted(next, c);
-    }
-    let l = c.literal;
-    let other = literal::opposite_of(l);
-    let gone = Change {
-        removes: true,
-        literal: other,
+    let next = Altered {
+        table: applied.table,
+        ..t
     };
-    let first = with_noted(next, gone);
-    with_noted(first, c)
+    match applied.effect {
+        Effect::Nothing | Effect::Impossible => next,
+        Effect::Changed => with_noted(next, c),
+        Effect::Replaced => {
+            let gone = Change {
+                removes: true,
+                literal: literal::opposite_of(c.literal),
+            };
+            let first = with_noted(next, gone);
+            with_noted(first, c)
+        }
+    }
 }
 
 // One change.
@@ -123,54 +143,21 @@ fn with_action(t: Altered, env: Env, action: Action) -> Altered
     requires { t.count + 2 ≤ most_changes }
     ensures { Extends t (effective (view t.table) (as_change env action)) result }
 {
-    let l = action.literal;
-    let ground = literal::instantiated(env, l);
+    let ground = literal::instantiated(env, action.literal);
     let c = change_of(action.kind, ground);
-    let table = t.table;
-    let applied = with_change(table, c);
+    let applied = with_change(t.table, c);
     noted(t, c, applied)
 }
 
-fn list_length(library: &[u8], plan: usize, succeeds: bool) -> u16
-    ensures { result ≡ length (list_of succeeds (plan_of library.now plan)) }
+// A plan's success or failure list runs, under an environment: all actions that there is room for.
+pub fn list_run(library: &[u8], plan: usize, ending: Ending, env: Env, b: Beliefs) -> Altered
+    ensures { Alters b (effects (view b) env (take most_actions (list_of ending (plan_of library.now plan)))) result }
 {
-    if succeeds {
-        return plan::success_count(library, plan);
-    }
-    plan::failure_count(library, plan)
-}
-
-fn list_action(library: &[u8], plan: usize, succeeds: bool, place: usize) -> Action
-    ensures { result ≡ get_or (list_of succeeds (plan_of library.now plan)) place no_action }
-{
-    if succeeds {
-        return plan::success_action(library, plan, place);
-    }
-    plan::failure_action(library, plan, place)
-}
-
-// How many actions of a list run: all that there is room for.
-fn list_count(library: &[u8], plan: usize, succeeds: bool) -> usize
-    ensures { result ≡ min (length (list_of succeeds (plan_of library.now plan))) most_actions }
-{
-    let n = list_length(library, plan, succeeds) as usize;
-    if n < MOST_ACTIONS {
-        return n;
-    }
-    MOST_ACTIONS
-}
-
-// A plan's success or failure list runs, under an environment.
-pub fn list_run(library: &[u8], plan: usize, succeeds: bool, env: Env, b: Beliefs) -> Altered
-    ensures { Alters b (effects (view b) env (take most_actions (list_of succeeds (plan_of library.now plan)))) result }
-{
-    let n = list_count(library, plan, succeeds);
+    let n = (ending.count(library, plan) as usize).min(MOST_ACTIONS);
     let mut t = unaltered(b);
-    let mut i: usize = 0;
-    while i < n {
-        let action = list_action(library, plan, succeeds, i);
+    for i in 0..n {
+        let action = ending.action(library, plan, i);
         t = with_action(t, env, action);
-        i += 1;
     }
     t
 }

@@ -1,19 +1,21 @@
 // Trying a branch: what comes of it, before the state changes.
-ghost use Rattle.std.specs.Prelude.{◌≡◌, []};
-ghost use Rattle.std.proofs.Math.Option.{none};
+ghost use Rattle.std.specs.Prelude.{◌≡◌, ◌||◌, not, leb, [], None};
+ghost use Rattle.literal.specs.Literal.{is_ground};
 ghost use Rattle.literal.specs.Environment.{instantiate};
-ghost use Rattle.literal.specs.Match.{answer};
 ghost use Rattle.literal.specs.Divide.{divide};
 ghost use Rattle.belief.specs.Beliefs.{view};
+ghost use Rattle.library.specs.Kinds.{deed_number};
+ghost use Rattle.library.specs.declared.kinds.Deed.TheVariants.{Achieve, Query};
+ghost use Rattle.model.specs.State.{most_height};
 ghost use Rattle.model.specs.Try.{try_change, try_action, try_divide, answer_to, is_barred, pursue, attempt};
 ghost use Rattle.trials.specs.Trial.{view_outcome, Tries};
 
 use crate::changes;
 use crate::changes::Altered;
-use belief::{Beliefs, Change};
-use library::{Branch, DIVIDE};
-use literal::{Env, Literal, Match};
-use model::{ACHIEVE, ACTION};
+use belief::{Beliefs, Change, Effect};
+use library::Branch;
+use library::kinds::Deed;
+use literal::{Env, Literal};
 
 // A stack has at most this many instances.
 const MOST_HEIGHT: usize = 8;
@@ -39,11 +41,10 @@ pub struct Trial {
 fn plain_trial(b: Beliefs, env: Env, outcome: Outcome) -> Trial
     ensures { Tries b (view_outcome outcome env []) result }
 {
-    let altered = changes::unaltered(b);
     Trial {
-        outcome: outcome,
-        env: env,
-        altered: altered,
+        outcome,
+        env,
+        altered: changes::unaltered(b),
     }
 }
 
@@ -52,127 +53,106 @@ fn try_change(b: Beliefs, env: Env, c: Change) -> Trial
     ensures { Tries b (try_change (view b) env c) result }
 {
     let applied = changes::with_change(b, c);
-    if !applied.fitted {
-        let missed = Outcome::Missed;
-        return plain_trial(b, env, missed);
-    }
-    let none = changes::unaltered(b);
-    let altered = changes::noted(none, c, applied);
-    let stepped = Outcome::Stepped;
-    Trial {
-        outcome: stepped,
-        env: env,
-        altered: altered,
+    match applied.effect {
+        Effect::Impossible => plain_trial(b, env, Outcome::Missed),
+        _ => {
+            let none = changes::unaltered(b);
+            Trial {
+                outcome: Outcome::Stepped,
+                env,
+                altered: changes::noted(none, c, applied),
+            }
+        }
     }
 }
 
 // An external action, if it is ground.
+#[tactic(auto, unfolding(model::specs::Try::try_action))]
 fn try_action(b: Beliefs, env: Env, l: Literal) -> Trial
     ensures { Tries b (try_action l) result }
 {
-    if !literal::is_ground(l) {
-        let missed = Outcome::Missed;
-        return plain_trial(b, env, missed);
-    }
-    let done = Outcome::Done(l);
-    plain_trial(b, env, done)
-}
-
-// What the beliefs answer to a goal: an achieve is held, a query is matched by a first belief.
-fn answer_to(kind: u16, b: Beliefs, env: Env, l: Literal) -> Match
-    ensures { result ≡ answer env (answer_to kind (view b) env l) }
-{
-    if kind != ACHIEVE {
-        return situation::ask(b, l, env);
-    }
-    let goal = literal::instantiated(env, l);
-    if !literal::is_ground(goal) {
-        return Match {
-            found: false,
-            env: env,
-        };
-    }
-    let held = belief::is_held(b, goal);
-    Match {
-        found: held,
-        env: env,
-    }
-}
-
-// Whether a goal is not posted: not ground, a stack of 8, or a query's opposite held.
-fn is_barred(kind: u16, b: Beliefs, height: usize, goal: Literal) -> bool
-    ensures { result ≡ is_barred kind (view b) height goal }
-{
-    if !literal::is_ground(goal) {
-        return true;
-    }
-    if MOST_HEIGHT <= height {
-        return true;
-    }
-    if kind == ACHIEVE {
-        return false;
-    }
-    let opposite = literal::opposite_of(goal);
-    belief::is_held(b, opposite)
+    let outcome = if literal::is_ground(l) {
+        Outcome::Done(l)
+    } else {
+        Outcome::Missed
+    };
+    plain_trial(b, env, outcome)
 }
 
 // A goal that the beliefs do not answer: posted, unless it is barred.
-fn try_post(b: Beliefs, height: usize, env: Env, kind: u16, goal: Literal) -> Trial
-    ensures { Tries b (pursue none (is_barred kind (view b) height goal) goal) result }
+#[tactic(auto, unfolding(model::specs::Try::pursue))]
+fn post(b: Beliefs, env: Env, goal: Literal, barred: bool) -> Trial
+    ensures { Tries b (pursue None barred goal) result }
 {
-    if is_barred(kind, b, height, goal) {
-        let missed = Outcome::Missed;
-        return plain_trial(b, env, missed);
-    }
-    let posted = Outcome::Posted(goal);
-    plain_trial(b, env, posted)
+    let outcome = if barred {
+        Outcome::Missed
+    } else {
+        Outcome::Posted(goal)
+    };
+    plain_trial(b, env, outcome)
 }
 
-// Achieve or query: ask the beliefs, then post.
-fn try_goal(b: Beliefs, height: usize, env: Env, kind: u16, l: Literal) -> Trial
-    ensures { Tries b (pursue (answer_to kind (view b) env l)
-        (is_barred kind (view b) height (instantiate env l)) (instantiate env l)) result }
+// Whether no goal of any kind is posted: it is not ground, or the stack has 8 instances.
+fn is_unfit(height: usize, goal: Literal) -> bool
+    ensures { result ≡ (not (is_ground goal) || leb most_height height) }
 {
-    let m = answer_to(kind, b, env, l);
-    if m.found {
-        let stepped = Outcome::Stepped;
-        let extended = m.env;
-        return plain_trial(b, extended, stepped);
+    !literal::is_ground(goal) || MOST_HEIGHT <= height
+}
+
+// An achieve: stepped where it is held, else posted.
+#[tactic(auto, unfolding(model::specs::Try::pursue, model::specs::Try::answer_to, model::specs::Try::is_barred))]
+fn try_achieve(b: Beliefs, height: usize, env: Env, l: Literal) -> Trial
+    ensures { Tries b (pursue (answer_to (deed_number Achieve) (view b) env l)
+        (is_barred (deed_number Achieve) (view b) height (instantiate env l)) (instantiate env l)) result }
+{
+    let goal = literal::instantiated(env, l);
+    if literal::is_ground(goal) && belief::is_held(b, goal) {
+        return plain_trial(b, env, Outcome::Stepped);
+    }
+    post(b, env, goal, is_unfit(height, goal))
+}
+
+// A query: stepped where a first belief matches it, else posted, unless its opposite is held.
+#[tactic(auto, unfolding(model::specs::Try::pursue, model::specs::Try::answer_to, model::specs::Try::is_barred))]
+fn try_query(b: Beliefs, height: usize, env: Env, l: Literal) -> Trial
+    ensures { Tries b (pursue (answer_to (deed_number Query) (view b) env l)
+        (is_barred (deed_number Query) (view b) height (instantiate env l)) (instantiate env l)) result }
+{
+    if let Some(extended) = situation::ask(b, l, env) {
+        return plain_trial(b, extended, Outcome::Stepped);
     }
     let goal = literal::instantiated(env, l);
-    try_post(b, height, env, kind, goal)
+    let barred = is_unfit(height, goal) || belief::is_held(b, literal::opposite_of(goal));
+    post(b, env, goal, barred)
 }
 
 // A divide: stepped where it can be done, else missed; no belief changes.
+#[tactic(auto, unfolding(model::specs::Try::try_divide))]
 fn try_divide(b: Beliefs, env: Env, l: Literal) -> Trial
     ensures { Tries b (try_divide (divide l env)) result }
 {
-    let m = literal::divide(l, env);
-    if m.found {
-        let stepped = Outcome::Stepped;
-        let extended = m.env;
-        return plain_trial(b, extended, stepped);
+    match literal::divide(l, env) {
+        Some(extended) => plain_trial(b, extended, Outcome::Stepped),
+        None => plain_trial(b, env, Outcome::Missed),
     }
-    let missed = Outcome::Missed;
-    plain_trial(b, env, missed)
 }
 
 // A branch by its kind, from the beliefs, the stack's height and the environment.
+#[tactic(auto, unfolding(model::specs::Try::attempt))]
 pub fn attempt(b: Beliefs, height: usize, env: Env, branch: Branch) -> Trial
     ensures { Tries b (attempt (view b) height env branch) result }
 {
-    let kind = branch.kind;
     let l = branch.literal;
-    if kind == DIVIDE {
-        return try_divide(b, env, l);
-    }
-    if ACTION < kind {
-        return try_goal(b, height, env, kind, l);
-    }
+    // What names no kind is tried as a query.
+    let Ok(deed) = Deed::try_from(branch.kind) else {
+        return try_query(b, height, env, l);
+    };
     let ground = literal::instantiated(env, l);
-    if kind == ACTION {
-        return try_action(b, env, ground);
+    match deed {
+        Deed::Add | Deed::Remove => try_change(b, env, changes::change_of(branch.kind, ground)),
+        Deed::Act => try_action(b, env, ground),
+        Deed::Achieve => try_achieve(b, height, env, l),
+        Deed::Query => try_query(b, height, env, l),
+        Deed::Divide => try_divide(b, env, l),
     }
-    let c = changes::change_of(kind, ground);
-    try_change(b, env, c)
 }

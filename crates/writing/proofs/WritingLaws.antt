@@ -1,11 +1,12 @@
 -- Laws of writing: one text after the other, with a larger bound, or nothing; and what the whole buffer holds then.
-use Prim.Native.Nat.{ℕ, suc, ◌+◌, ◌≤◌}
+use Prim.Native.Nat.{ℕ, suc, ◌+◌, ◌-◌, ◌≤◌}
 use native.Mathlib.Nat.{add-zero, add-suc, suc-add}
 use native.Mathlib.Omega.{arith}
 use mathlib.Core.Path.{◌≡◌, refl, sym, ap, ◌∙◌}
-use mathlib.Core.List.{List, [], ◌∷◌, ◌++◌}
+use mathlib.Core.List.{List, [], ◌∷◌, ◌++◌, append_assoc}
 use lib.ListN.{length, length-append, set, take, drop}
-use lib.Seq.{sets, sets-eq}
+use lib.Seq.{sets, sets-eq, drop-drop}
+use borrow.Rule.Slice.PartMut.{put_mid}
 use Rattle.writing.specs.Writing.{Wrote}
 
 sets_append : (bytes : List ℕ) (i : ℕ) (s t : List ℕ) → sets (sets bytes i s) (i + length s) t ≡ sets bytes i (s ++ t)
@@ -38,3 +39,13 @@ pub whole : {m : ℕ} {before after : List ℕ} {at next : ℕ} {text : List ℕ
     → after ≡ take at before ++ text ++ drop next before
 whole {m} {before} {after} {at} {next} {text} room p =
     p.bytes ∙ sets-eq text before at (omega (arith, p.past, p.within)) ∙ ap (λ (k : ℕ). take at before ++ text ++ drop k before) (sym p.past)
+
+-- bytes that are copied over a part of the buffer
+pub copied : (before bytes : List ℕ) (at : ℕ) → at + length bytes ≤ length before
+    → Wrote (length bytes) before (put_mid at (at + length bytes - at) before bytes) at (at + length bytes) bytes
+copied before bytes at room = record {
+  bytes = let behind : at + (at + length bytes - at) ≡ at + length bytes = omega arith in
+      rw (drop-drop, behind, ← append_assoc) (sym (sets-eq bytes before at room));
+  past = refl;
+  within = omega arith;
+}

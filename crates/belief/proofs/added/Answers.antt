@@ -16,5 +16,5 @@ returns-then-n-ge-MOST_BELIEFS c =
 pub returns : goal.returns
 returns c =
     let a = c.args in
-    add_last a.b a.l c.removed-without.result (c.removed-without.ensures ∙ ap (remove a.b) c.opposite_of-other.ensures)
-    (sym c.is_held.ensures ∙ c.if-is_held.false) c.if-n-ge-MOST_BELIEFS.false
+    rw c.over.ensures (add_last a.b a.l c.removed-without.result (c.removed-without.ensures ∙ ap (remove a.b) c.opposite_of-other.ensures)
+    (sym c.is_held.ensures ∙ c.if-is_held.false) c.if-n-ge-MOST_BELIEFS.false)

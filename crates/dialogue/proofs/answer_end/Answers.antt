@@ -8,4 +8,4 @@ pub returns-in_default : goal.returns-in_default
 returns-in_default c = let a = c.args in end_silent a.d a.piece.now a.out.now (sym (ap shown_last c.in_default.is) ∙ c.last_line.ensures)
 
 pub returns : goal.returns
-returns c = let a = c.args in end_fed a.d a.piece.now _ c.feed-fed.result (sym (ap shown_last c.in-Line.is) ∙ c.last_line.ensures) c.feed-fed.ensures
+returns c = let a = c.args in end_fed a.d a.piece.now _ c.feed-fed.result (sym (ap shown_last c.in-Some.is) ∙ c.last_line.ensures) c.feed-fed.ensures

@@ -1,29 +1,19 @@
--- `load::initial_beliefs` meets its contract. The loop's invariant: the first i places hold the first i beliefs.
+-- `load::initial_beliefs` meets its contract: each place holds the belief of its number, or none.
 use borrow.Author.Rules.{rules}
-use native.Mathlib.Omega.{arith}
-use mathlib.Core.Path.{refl}
-use Rattle.lists.proofs.ArrayLaws.{length-mapped}
+use Prim.Native.Nat.{ℕ}
+use native.Mathlib.Nat.{zero-add}
+use mathlib.Core.Path.{sym, ◌∙◌}
+use lib.ListN.{get_or}
+use Rattle.library.specs.Plan.{no_literal}
 use Rattle.library.specs.Layout.{beliefs_of}
 use Rattle.library.proofs.PartLaws.{length-beliefs}
-use Rattle.load.proofs.LoadLaws.{copied_next, copied_all}
+use Rattle.load.proofs.LoadLaws.{made_each, filled}
 use Rattle.load.proofs.initial_beliefs.Goals as goal
-
-pub loop-i-init : goal.loop-i-init
-loop-i-init c = (omega arith, record { size = search (rules, length-mapped); first = refl })
-
-pub bounds-table-i : goal.bounds-table-i
-bounds-table-i c = omega (arith, length-beliefs c.args.library.now, c.belief_count-n.ensures, c.requires)
-
-pub loop-i-preserved : goal.loop-i-preserved
-loop-i-preserved c =
-    let l = c.loop-i in
-    let bytes = c.args.library.now in
-    let n = c.belief_count-n.ensures in
-    (omega arith, copied_next (beliefs_of bytes) l.table.items l.i c.belief-belief.result c.belief-belief.ensures (omega (arith, length-beliefs bytes)) (omega (arith, length-beliefs bytes)) l.invariant.1)
 
 pub returns : goal.returns
 returns c =
-    let l = c.loop-i in
     let bytes = c.args.library.now in
-    let n = c.belief_count-n.ensures in
-    copied_all (beliefs_of bytes) l.table.items l.i c.belief_count-n.result (omega (arith, length-beliefs bytes)) (omega arith) (c.requires) l.invariant.1
+    let belief = λ (i : ℕ). get_or (beliefs_of bytes) i no_literal in
+    let each = made_each _ _ c.from_fn.result belief (λ i y q k. search rules) 64 0 c.from_fn.ensures.items.each in
+    filled (beliefs_of bytes) c.from_fn.result _ c.from_fn.ensures.items.long (λ i d h. rw zero-add at (each i d h))
+    (c.belief_count.ensures ∙ sym (length-beliefs bytes)) c.requires

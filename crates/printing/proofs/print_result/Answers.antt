@@ -15,8 +15,8 @@ returns-then-room-at c = unprinted (omega arith)
 pub returns : goal.returns
 unfolding line_text answer_text fits_line
 returns c = record {
-  line = λ room. rw (← c.size_of-n.ensures) (then c.put_answer-a.ensures.wrote (then c.put_changes-b.ensures.wrote c.put.ensures));
-  fit = λ room. rw (← c.size_of-n.ensures) (and_both _ _ c.put_answer-a.ensures.fits c.put_changes-b.ensures.fits);
+  line = λ room. rw (← c.min-n.ensures) (then c.put_answer-a.ensures.wrote (then c.put_changes-b.ensures.wrote c.put.ensures));
+  fit = λ room. rw (← c.min-n.ensures) (and_both _ _ c.put_answer-a.ensures.fits c.put_changes-b.ensures.fits);
   unwritten = λ full. absurd (omega arith);
   unmoved = λ full. absurd (omega arith);
 }

@@ -1,31 +1,41 @@
--- `printing::put_changes` meets its contract. The loop's invariant: the text of the first i changes is written, and they fit.
+-- `printing::put_changes` meets its contract: one change more, and all of them at the end.
 use borrow.Author.Rules.{rules}
 use native.Mathlib.Omega.{arith}
-use Prim.Native.Nat.{◌<◌}
-use mathlib.Core.Path.{◌≡◌, refl, ◌∙◌}
-use lib.ListN.{length}
-use Rattle.lists.specs.Search.{all}
+use mathlib.Core.Path.{◌≡◌, refl, ap, ◌∙◌}
+use lib.ListN.{length, take}
+use lib.Seq.{length-take-le, take_all}
+use Rattle.lists.specs.Counts.{each}
 use Rattle.lists.proofs.ArrayLaws.{length-mapped}
-use Rattle.writing.proofs.WritingLaws.{widen, nothing}
+use Rattle.writing.proofs.WritingLaws.{widen, nothing, written}
+use Rattle.printing.specs.LineText.{change_text}
 use Rattle.printing.proofs.TextLaws.{next_change, next_fit}
 use Rattle.printing.proofs.put_changes.Goals as goal
 
-pub loop-i-init : goal.loop-i-init
-unfolding all
-loop-i-init c = (omega arith, refl, nothing, refl)
+pub loop-c-init : goal.loop-c-init
+loop-c-init c = record { kept = refl; written = nothing; fit = refl }
 
-pub loop-i-preserved : goal.loop-i-preserved
-loop-i-preserved c =
-    let changes = c.args.changes in
-    let long : length changes ≡ 8 = search (rules, length-mapped) in
-    let low : c.loop-i.i < length changes = omega arith in (
-      search rules,
-      c.put_change-o.auto.out ∙ c.loop-i.invariant.1,
-      next_change changes c.loop-i.i _ low c.loop-i.invariant.2 c.put_change-o.ensures.wrote,
-      next_fit changes c.loop-i.i _ low c.loop-i.invariant.3 c.put_change-o.ensures.fits,
-    )
+pub put_change-o-requires : goal.put_change-o-requires
+put_change-o-requires c =
+    let long : length c.args.changes ≡ 8 = search (rules, length-mapped) in
+    let count : length (take c.args.n c.args.changes) ≡ c.args.n = length-take-le c.args.n c.args.changes (omega arith) in
+    omega (arith, count, c.loop-c.invariant.written.within)
+
+pub loop-c-preserved : goal.loop-c-preserved
+loop-c-preserved c =
+    let changes = take c.args.n c.args.changes in
+    record {
+      kept = c.put_change-o.auto.out ∙ c.loop-c.invariant.kept;
+      written = next_change changes c.loop-c.c-index _ c.loop-c-test.true c.loop-c.invariant.written c.put_change-o.ensures.wrote;
+      fit = next_fit changes c.loop-c.c-index _ c.loop-c-test.true c.loop-c.invariant.fit c.put_change-o.ensures.fits;
+    }
 
 pub returns : goal.returns
 returns c =
-    let last : c.loop-i.i ≡ c.args.n = omega arith in
-    record { wrote = rw (← last) (widen (omega arith) c.loop-i.invariant.2); fits = rw (← last) c.loop-i.invariant.3 }
+    let changes = take c.args.n c.args.changes in
+    let long : length c.args.changes ≡ 8 = search (rules, length-mapped) in
+    let count : length changes ≡ c.args.n = length-take-le c.args.n c.args.changes (omega arith) in
+    let all = take_all c.loop-c.c-index changes (omega arith) in
+    record {
+      wrote = written (ap (each change_text) all) (widen (omega (arith, count)) c.loop-c.invariant.written);
+      fits = rw all at c.loop-c.invariant.fit;
+    }

@@ -1,44 +1,37 @@
 -- `reading::read_call` meets its contract: by the line's length, its letter and the byte after it.
-use mathlib.Core.Path.{sym, ap, ◌∙◌}
-use lib.ListN.{drop}
-use Rattle.reading.specs.Call.{fields, report_of, outcome_of}
-use Rattle.reading.proofs.PlaceLaws.{left_in_lem}
-use Rattle.reading.proofs.CallLaws.{call_empty, call_short, call_then, call-wrong, by_report, by_outcome, by_cycle, by_none, by_other}
+use native.Mathlib.Omega.{arith}
+use mathlib.Core.Path.{sym, ◌∙◌}
+use Rattle.reading.proofs.CallLaws.{call_empty, call_report, call_outcome, call_cycle, call_none}
 use Rattle.reading.proofs.LongLines.{long_unreadable}
 use Rattle.reading.proofs.read_call.Goals as goal
 
 pub returns-then-line-gt-MOST_LINE : goal.returns-then-line-gt-MOST_LINE
-returns-then-line-gt-MOST_LINE c = let s = c.args.line.now in sym (long_unreadable s c.if-line-gt-MOST_LINE.true)
+returns-then-line-gt-MOST_LINE c = sym (long_unreadable c.args.line.now c.if-line-gt-MOST_LINE.true)
 
-pub returns-then-line-lt1 : goal.returns-then-line-lt1
-returns-then-line-lt1 c = let s = c.args.line.now in sym (call_empty s c.if-line-lt1.true)
+pub returns-in-67 : goal.returns-in-67
+returns-in-67 c = sym (call_cycle c.args.line.now c.in-67.len_at_least c.in-67.len_below (omega arith))
 
-pub returns-then-b-eq67 : goal.returns-then-b-eq67
-returns-then-b-eq67 c =
-    let s = c.args.line.now in
-    sym (call_short s c.if-line-lt1.false c.if-line-lt2.true ∙ by_cycle _ c.if-b-eq67.true)
+pub returns-in-80 : goal.returns-in-80
+returns-in-80 c = c.report_at.ensures ∙ sym (call_report c.args.line.now c.in-80.len_at_least (omega arith) (omega arith))
 
-pub returns-then-line-lt2 : goal.returns-then-line-lt2
-returns-then-line-lt2 c =
-    let s = c.args.line.now in
-    sym (call_short s c.if-line-lt1.false c.if-line-lt2.true ∙ by_none _ c.if-b-eq67.false)
+pub returns-in-79 : goal.returns-in-79
+returns-in-79 c = c.outcome_at.ensures ∙ sym (call_outcome c.args.line.now c.in-79.len_at_least (omega arith) (omega arith))
 
-pub returns-then-line-ne32 : goal.returns-then-line-ne32
-returns-then-line-ne32 c =
-    let s = c.args.line.now in
-    sym (call-wrong s c.if-line-lt2.false c.if-line-ne32.true)
+pub returns-in_default : goal.returns-in_default
+returns-in_default c = sym (call_empty c.args.line.now c.in_default.len_below)
 
-pub returns-then-b-eq80 : goal.returns-then-b-eq80
-returns-then-b-eq80 c =
-    let s = c.args.line.now in
-    c.report_at.ensures ∙ ap report_of (left_in_lem s 2 c.if-line-lt2.false) ∙ sym (call_then s c.if-line-lt2.false c.if-line-ne32.false ∙ by_report _ (fields (drop 2 s)) c.if-b-eq80.true)
+pub returns-in_default-2 : goal.returns-in_default-2
+returns-in_default-2 c =
+    sym (call_none c.args.line.now c.in_default.len_at_least (λ h b. omega arith) (λ h b e. omega arith) (λ h b e. omega arith))
 
-pub returns-then-b-eq79 : goal.returns-then-b-eq79
-returns-then-b-eq79 c =
-    let s = c.args.line.now in
-    c.outcome_at.ensures ∙ ap outcome_of (left_in_lem s 2 c.if-line-lt2.false) ∙ sym (call_then s c.if-line-lt2.false c.if-line-ne32.false ∙ by_outcome _ (fields (drop 2 s)) c.if-b-eq79.true)
+pub returns-in_default-3 : goal.returns-in_default-3
+returns-in_default-3 c =
+    sym (call_none c.args.line.now (omega arith) (λ h b. omega arith) (λ h b e. omega arith) (λ h b e. omega arith))
 
-pub returns : goal.returns
-returns c =
-    let s = c.args.line.now in
-    sym (call_then s c.if-line-lt2.false c.if-line-ne32.false ∙ by_other _ (drop 2 s) c.if-b-eq80.false c.if-b-eq79.false)
+pub returns-in_default-4 : goal.returns-in_default-4
+returns-in_default-4 c =
+    sym (call_none c.args.line.now (omega arith) (λ h b. omega arith) (λ h b e. omega arith) (λ h b e. omega arith))
+
+pub returns-in_default-5 : goal.returns-in_default-5
+returns-in_default-5 c =
+    sym (call_none c.args.line.now (omega arith) (λ h b. omega arith) (λ h b e. omega arith) (λ h b e. omega arith))

@@ -1,19 +1,22 @@
 -- `stream::call_of` meets its contract: a line that is too long says nothing, and any other is read.
-use mathlib.Core.Path.{◌≡◌}
-use lib.ListN.{length, length-take}
-use Rattle.stream.proofs.CarryLaws.{begun_short, begun_long}
-use native.Mathlib.Omega.{arith}
 use borrow.Author.Rules.{rules}
+use native.Mathlib.Omega.{arith}
+use mathlib.Core.Path.{◌≡◌, ap, ◌∙◌}
+use lib.ListN.{length}
+use Rattle.std.proofs.lemmas.Slice.{between_from_start}
+use Rattle.reading.specs.Call.{call_of}
+use Rattle.stream.proofs.CarryLaws.{begun_short, begun_long}
 use Rattle.stream.proofs.call_of.Goals as goal
 
-pub returns-then-count-gt-MOST_LINE : goal.returns-then-count-gt-MOST_LINE
-returns-then-count-gt-MOST_LINE c = rw (begun_long c.args.carry c.if-count-gt-MOST_LINE.true)
-
-pub slice_bounds-bytes-end : goal.slice_bounds-bytes-end
-slice_bounds-bytes-end c = let l : length c.args.carry.bytes ≡ 32 = search rules in omega arith
-
-pub slice_bounds-read_call-end : goal.slice_bounds-read_call-end
-slice_bounds-read_call-end c = let l : length c.args.carry.bytes ≡ 32 = search rules in simp length-take (omega arith)
+pub returns-in_err-get : goal.returns-in_err-get
+returns-in_err-get c =
+    let a = c.args.carry in
+    let l : length a.bytes ≡ 32 = search rules in
+    rw (c.from_residual.ensures, begun_long a (omega (arith, c.in_err-get.ensures.lookup.0)))
 
 pub returns : goal.returns
-returns c = rw (begun_short c.args.carry c.if-count-gt-MOST_LINE.false) c.read_call.ensures
+returns c =
+    let a = c.args.carry in
+    let l : length a.bytes ≡ 32 = search rules in
+    let rest = c.in_ok-get.ensures.lookup.0 in
+    rw (begun_short a (omega (arith, rest.1))) (c.read_call.ensures ∙ ap call_of (rest.2 ∙ between_from_start a.bytes a.count))

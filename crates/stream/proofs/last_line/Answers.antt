@@ -12,4 +12,4 @@ pub returns : goal.returns
 returns c =
     let a = c.args.carry in
     let l : length a.bytes ≡ 32 = search rules in
-    rw c.call_of-call.ensures (sym (end_line a l c.if-carry-lt1.false))
+    rw c.call_of.ensures (sym (end_line a l c.if-carry-lt1.false))

@@ -1,22 +1,19 @@
 -- `stream::next_line` meets its contract: no newline is left, the line stands in the chunk alone, or it began before.
-use mathlib.Core.Path.{sym, ap, ◌∙◌}
+use mathlib.Core.Path.{ap, ◌∙◌}
 use Rattle.stream.specs.Carried.{begun, said}
 use Rattle.stream.proofs.CarryLaws.{in_place_lem}
-use Rattle.stream.proofs.ChunkLaws.{next_used, next_answer}
-use native.Mathlib.Omega.{arith}
+use Rattle.stream.proofs.ChunkLaws.{next_nothing, next_answer}
 use Rattle.stream.proofs.next_line.Goals as goal
+use Rattle.stream.proofs.next_line.Goals.{then-carry-eq0, else-carry-eq0}
 
-pub returns-then-chunk-stop : goal.returns-then-chunk-stop
-returns-then-chunk-stop c = let a = c.args in sym (next_used a.chunk.now a.at (begun a.carry) (omega (arith, c.line_end-stop.ensures)))
-
-pub returns-then-carry-eq0 : goal.returns-then-carry-eq0
-returns-then-carry-eq0 c =
-    let a = c.args in
-    let l = c.line_end-stop in
-    next_answer a.chunk.now a.at (begun a.carry) l.result _ l.ensures c.if-chunk-stop.false (c.read_call-call.ensures ∙ in_place_lem a.carry _ c.if-carry-eq0.true)
+pub returns-in_err-stop : goal.returns-in_err-stop
+returns-in_err-stop c = let a = c.args in rw c.from_residual.ensures (next_nothing a.chunk.now a.at (begun a.carry) c.in_err-stop.ensures)
 
 pub returns : goal.returns
 returns c =
     let a = c.args in
-    let l = c.line_end-stop in
-    next_answer a.chunk.now a.at (begun a.carry) l.result _ l.ensures c.if-chunk-stop.false (c.call_of-call.ensures ∙ ap said c.extended-whole.ensures)
+    next_answer a.chunk.now a.at (begun a.carry) c.in_ok-stop.stop _ c.in_ok-stop.ensures
+    (elim c.if-carry-eq0.branch [
+      | then-carry-eq0 w ↦ rw w.call-is (w.read_call-call.ensures ∙ in_place_lem a.carry _ w.if-carry-eq0.true)
+      | else-carry-eq0 w ↦ rw w.call-is (w.call_of-call.ensures ∙ ap said w.extended.ensures)
+    ])

@@ -1,16 +1,12 @@
 -- `accepted::rules::enter_branches` meets its contract. The loop's invariant: the counts so far, and of those left, are those of all.
-use Prim.Native.Nat.{◌≤◌, ◌+◌, ◌*◌}
+use Prim.Native.Nat.{◌+◌, ◌*◌, ◌-◌}
 use mathlib.Core.Path.{◌≡◌}
 use lib.ListN.{length}
 use Rattle.library.specs.Bytes.{branch_at, items}
 use Rattle.accepted.specs.Counts.{counted_in}
 use Rattle.accepted.proofs.rules.enter_branches.Given as goal
 
-abbrev pub invariant-loop-left : goal.invariant-loop-left
-invariant-loop-left l =
-    (l.at + 12 * l.left ≤ l.from + 12 * l.n)
-    × (length l.counts ≡ length l.initial.counts)
-    × (counted_in l.counts (items (branch_at l.bytes) 12 l.left l.at) ≡ counted_in l.initial.counts (items (branch_at l.bytes) 12 l.n l.from))
-
-abbrev pub decreases-loop-left : goal.decreases-loop-left
-decreases-loop-left l = l.left
+abbrev pub invariant-loop-i : goal.invariant-loop-i
+invariant-loop-i l =
+    (length l.counts ≡ length l.initial.counts)
+    × (counted_in l.counts (items (branch_at l.bytes) 12 (l.n - l.i) (l.from + 12 * l.i)) ≡ counted_in l.initial.counts (items (branch_at l.bytes) 12 l.n l.from))

@@ -1,16 +1,13 @@
 -- `accepted::rules::enter_states` meets its contract. The loop's invariant: the counts so far, and of the states left, are those of all.
-use Prim.Native.Nat.{◌≤◌, ◌+◌, ◌*◌}
+use Prim.Native.Nat.{◌≤◌, ◌+◌, ◌*◌, ◌-◌}
 use mathlib.Core.Path.{◌≡◌}
 use lib.ListN.{length}
 use Rattle.library.specs.Bytes.{branch_at, rows}
 use Rattle.accepted.specs.Counts.{counted}
 use Rattle.accepted.proofs.rules.enter_states.Given as goal
 
-abbrev pub invariant-loop-left : goal.invariant-loop-left
-invariant-loop-left l =
-    (l.at + 786422 * l.left ≤ l.from + 786422 * l.count)
+abbrev pub invariant-loop : goal.invariant-loop
+invariant-loop l =
+    (l.at ≤ l.from + 786422 * l.counter)
     × (length l.counts ≡ length l.initial.counts)
-    × (counted l.counts (rows (branch_at l.bytes) l.bytes 12 l.left l.at) ≡ counted l.initial.counts (rows (branch_at l.bytes) l.bytes 12 l.count l.from))
-
-abbrev pub decreases-loop-left : goal.decreases-loop-left
-decreases-loop-left l = l.left
+    × (counted l.counts (rows (branch_at l.bytes) l.bytes 12 (l.count - l.counter) l.at) ≡ counted l.initial.counts (rows (branch_at l.bytes) l.bytes 12 l.count l.from))

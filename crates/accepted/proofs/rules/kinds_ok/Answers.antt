@@ -1,28 +1,18 @@
--- `accepted::rules::kinds_ok` meets its contract. The loop's invariant: what is left decides as the whole does.
-use mathlib.Core.Path.{refl, ◌∙◌}
+-- `accepted::rules::kinds_ok` meets its contract: the range's numbers test the items.
+use borrow.Author.Rules.{rules}
+use borrow.Author.Tests.{tests}
 use native.Mathlib.Omega.{arith}
-use borrow.Author.Tests.{le-leb, lt-leb}
+use mathlib.Core.Path.{refl, ◌∙◌}
+use Prim.Native.Nat.{◌+◌, ◌*◌}
+use Rattle.std.proofs.lemmas.Iterator.{YieldsList-from_range}
+use Rattle.std.proofs.lemmas.Iterator.Search.{all_from_yields_List}
 use Rattle.accepted.specs.Rules.{action_ok}
 use Rattle.library.specs.Bytes.{action_at}
-use Rattle.library.proofs.RowLaws.{all-step, all_stop, all_done}
+use Rattle.library.proofs.RowLaws.{all_items}
 use Rattle.accepted.proofs.rules.kinds_ok.Goals as goal
-
-pub loop-left-init : goal.loop-left-init
-loop-left-init c = (omega arith, omega arith, refl)
-
-pub returns-then-kind-gt-LAST_ACTION : goal.returns-then-kind-gt-LAST_ACTION
-returns-then-kind-gt-LAST_ACTION c =
-    let l = c.loop-left in
-    let many = rw c.u16_at-kind.ensures at (lt-leb _ 1 c.if-kind-gt-LAST_ACTION.true) in
-    all_stop action_ok (action_at c.args.bytes.now) 10 l.left l.at c.loop-left-test.true many ∙ l.invariant.2
-
-pub loop-left-preserved : goal.loop-left-preserved
-loop-left-preserved c =
-    let l = c.loop-left in
-    let few = rw c.u16_at-kind.ensures at (le-leb _ 1 c.if-kind-gt-LAST_ACTION.false) in
-    (omega arith, omega arith, all-step action_ok (action_at c.args.bytes.now) 10 l.left l.at c.loop-left-test.true few ∙ l.invariant.2)
 
 pub returns : goal.returns
 returns c =
-    let l = c.loop-left in
-    all_done action_ok (action_at c.args.bytes.now) 10 l.left l.at c.loop-left-test.false ∙ l.invariant.2
+    let a = c.args in
+    all_from_yields_List (λ i. action_ok (action_at a.bytes.now (a.from + 10 * i))) _ _ _ c.all.ensures.ran (YieldsList-from_range 0 a.n a.n refl (omega arith)) (λ x b q k. search (rules, tests))
+    ∙ all_items (action_at a.bytes.now) action_ok 10 a.n a.from

@@ -1,23 +1,22 @@
 -- `accepted::rules::past_actions` meets its contract: their number decides, then their kinds.
-use native.Mathlib.Omega.{arith}
 use mathlib.Core.Path.{sym, ◌∙◌}
 use Rattle.accepted.proofs.RuleLaws.{broken, kept, actions-many, actions-few, actions_end_lem}
 use Rattle.accepted.proofs.rules.past_actions.Goals as goal
+use Rattle.accepted.proofs.rules.past_actions.Goals.{then-count-gt-MOST_ITEMS-via-then-count-gt-MOST_ITEMS, then-count-gt-MOST_ITEMS-via-else-count-gt-MOST_ITEMS+then-not-kinds_ok}
 
-pub returns-then-count-gt-MOST_ITEMS : goal.returns-then-count-gt-MOST_ITEMS
-returns-then-count-gt-MOST_ITEMS c =
+pub returns-then-count-gt-MOST_ITEMS-clause-value : goal.returns-then-count-gt-MOST_ITEMS-clause-value
+returns-then-count-gt-MOST_ITEMS-clause-value c =
     let a = c.args in
-    record { value = broken _ _ (actions-many a.bytes.now a.at _ c.u16_at-count.ensures c.if-count-gt-MOST_ITEMS.true); small = omega arith }
+    let count = c.u16_at-count.ensures in
+    broken _ _ (elim c.then-count-gt-MOST_ITEMS.branch [
+      | then-count-gt-MOST_ITEMS-via-then-count-gt-MOST_ITEMS w ↦ actions-many a.bytes.now a.at _ count w.if-count-gt-MOST_ITEMS.true
+      | then-count-gt-MOST_ITEMS-via-else-count-gt-MOST_ITEMS+then-not-kinds_ok w ↦
+          sym w.if-not-kinds_ok.true ∙ w.kinds_ok.ensures ∙ actions-few a.bytes.now a.at _ count w.if-count-gt-MOST_ITEMS.false
+    ])
 
-pub returns-then-not-kinds_ok : goal.returns-then-not-kinds_ok
-returns-then-not-kinds_ok c =
+pub returns-clause-value : goal.returns-clause-value
+returns-clause-value c =
     let a = c.args in
-    let decides = actions-few a.bytes.now a.at _ c.u16_at-count.ensures c.if-count-gt-MOST_ITEMS.false in
-    record { value = broken _ _ (sym c.if-not-kinds_ok.true ∙ c.kinds_ok.ensures ∙ decides); small = omega arith }
-
-pub returns : goal.returns
-returns c =
-    let a = c.args in
-    let decides = actions-few a.bytes.now a.at _ c.u16_at-count.ensures c.if-count-gt-MOST_ITEMS.false in
-    let ok = sym decides ∙ sym c.kinds_ok.ensures ∙ c.if-not-kinds_ok.false in
-    record { value = kept _ _ _ ok (actions_end_lem a.bytes.now a.at _ c.u16_at-count.ensures); small = omega arith }
+    let count = c.u16_at-count.ensures in
+    let decides = actions-few a.bytes.now a.at _ count c.if-count-gt-MOST_ITEMS.false in
+    kept _ _ _ (sym decides ∙ sym c.kinds_ok.ensures ∙ c.if-not-kinds_ok.false) (actions_end_lem a.bytes.now a.at _ count)

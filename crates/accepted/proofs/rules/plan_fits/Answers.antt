@@ -1,103 +1,23 @@
--- `accepted::rules::plan_fits` meets its contract: each return follows from the ends on the way to it.
-use Prim.Native.Nat.{◌+◌}
-use mathlib.Core.Path.{ap, ap₂, ◌∙◌}
+-- `accepted::rules::plan_fits` meets its contract: the trigger, then the parts behind it, the last of which ends where the entry says.
+use mathlib.Core.Path.{sym, ap₂, ◌∙◌}
+use Prim.Native.Nat.{ℕ, ◌+◌}
 use lib.Dec.{eqb}
-use Rattle.library.specs.Layout.{plan_at, entry_off, entry_length}
-use Rattle.accepted.proofs.PlanLaws.{trigger_fails, context_fails, maintenance_fails, success_fails}
-use Rattle.accepted.proofs.PlanLaws.{failure_fails, states-fail, end_decides}
+use Rattle.std.specs.Prelude.{Option, Some}
+use Rattle.std.specs.Option.{option_eq}
+use Rattle.library.specs.Layout.{entry_off, entry_length}
+use Rattle.accepted.proofs.PlanLaws.{parts_decide, trigger_fails}
 use Rattle.accepted.proofs.rules.plan_fits.Goals as goal
 
-pub returns-then-not-trigger_ok : goal.returns-then-not-trigger_ok
-unfolding plan_at
-returns-then-not-trigger_ok c =
-    let a = c.args in
-    let bytes = a.library.now in
-    trigger_fails bytes (entry_off bytes a.plan) (entry_length bytes a.plan) _ c.trigger_ok.ensures
-    c.if-not-trigger_ok.true
-
-pub returns-then-maintenance-eq-NOWHERE : goal.returns-then-maintenance-eq-NOWHERE
-unfolding plan_at
-returns-then-maintenance-eq-NOWHERE c =
-    let a = c.args in
-    let bytes = a.library.now in
-    let trigger = c.if-not-trigger_ok.false in
-    context_fails bytes (entry_off bytes a.plan) (entry_length bytes a.plan) _
-    c.trigger_ok.ensures trigger _ _ c.context_offset-context.ensures.value
-    c.past_situation-maintenance.ensures.value c.if-maintenance-eq-NOWHERE.true
-
-pub returns-then-success-eq-NOWHERE : goal.returns-then-success-eq-NOWHERE
-unfolding plan_at
-returns-then-success-eq-NOWHERE c =
-    let a = c.args in
-    let bytes = a.library.now in
-    let trigger = c.if-not-trigger_ok.false in
-    maintenance_fails bytes (entry_off bytes a.plan) (entry_length bytes a.plan) _
-    c.trigger_ok.ensures trigger _ _
-    c.context_offset-context.ensures.value c.past_situation-maintenance.ensures.value
-    c.if-maintenance-eq-NOWHERE.false _ c.past_situation-success.ensures.value c.if-success-eq-NOWHERE.true
-
-pub returns-then-failure-eq-NOWHERE : goal.returns-then-failure-eq-NOWHERE
-unfolding plan_at
-returns-then-failure-eq-NOWHERE c =
-    let a = c.args in
-    let bytes = a.library.now in
-    let trigger = c.if-not-trigger_ok.false in
-    success_fails bytes (entry_off bytes a.plan) (entry_length bytes a.plan) _
-    c.trigger_ok.ensures trigger _ _
-    c.context_offset-context.ensures.value
-    c.past_situation-maintenance.ensures.value
-    c.if-maintenance-eq-NOWHERE.false _ c.past_situation-success.ensures.value
-    c.if-success-eq-NOWHERE.false _ c.past_actions-failure.ensures.value c.if-failure-eq-NOWHERE.true
-
-pub returns-then-states-eq-NOWHERE : goal.returns-then-states-eq-NOWHERE
-unfolding plan_at
-returns-then-states-eq-NOWHERE c =
-    let a = c.args in
-    let bytes = a.library.now in
-    let trigger = c.if-not-trigger_ok.false in
-    failure_fails bytes (entry_off bytes a.plan) (entry_length bytes a.plan) _
-    c.trigger_ok.ensures trigger _ _
-    c.context_offset-context.ensures.value
-    c.past_situation-maintenance.ensures.value
-    c.if-maintenance-eq-NOWHERE.false _
-    c.past_situation-success.ensures.value
-    c.if-success-eq-NOWHERE.false _ c.past_actions-failure.ensures.value
-    c.if-failure-eq-NOWHERE.false _ c.past_actions-states.ensures.value c.if-states-eq-NOWHERE.true
-
-pub returns-then-end-eq-NOWHERE : goal.returns-then-end-eq-NOWHERE
-unfolding plan_at
-returns-then-end-eq-NOWHERE c =
-    let a = c.args in
-    let bytes = a.library.now in
-    let trigger = c.if-not-trigger_ok.false in
-    states-fail bytes (entry_off bytes a.plan) (entry_length bytes a.plan) _
-    c.trigger_ok.ensures trigger
-    _ _ c.context_offset-context.ensures.value
-    c.past_situation-maintenance.ensures.value
-    c.if-maintenance-eq-NOWHERE.false _
-    c.past_situation-success.ensures.value
-    c.if-success-eq-NOWHERE.false _
-    c.past_actions-failure.ensures.value
-    c.if-failure-eq-NOWHERE.false _ c.past_actions-states.ensures.value
-    c.if-states-eq-NOWHERE.false _ c.past_states-end.ensures c.if-end-eq-NOWHERE.true
-
-pub returns : goal.returns
-unfolding plan_at
-returns c =
-    let a = c.args in
-    let bytes = a.library.now in
-    let trigger = c.if-not-trigger_ok.false in
+pub returns-then-trigger_ok : goal.returns-then-trigger_ok
+returns-then-trigger_ok c =
+    let bytes = c.args.library.now in
+    let plan = c.args.plan in
     let end = ap₂ ◌+◌ c.entry_offset.ensures c.entry_length.ensures in
-    ap (eqb _) end
-    ∙ end_decides bytes (entry_off bytes a.plan) (entry_length bytes a.plan) _
-    c.trigger_ok.ensures
-    trigger _ _
-    c.context_offset-context.ensures.value
-    c.past_situation-maintenance.ensures.value
-    c.if-maintenance-eq-NOWHERE.false _
-    c.past_situation-success.ensures.value
-    c.if-success-eq-NOWHERE.false _
-    c.past_actions-failure.ensures.value
-    c.if-failure-eq-NOWHERE.false _
-    c.past_actions-states.ensures.value
-    c.if-states-eq-NOWHERE.false _ c.past_states-end.ensures c.if-end-eq-NOWHERE.false
+    c.eq.ensures
+    ∙ ap₂ (λ (part : Option ℕ) (place : ℕ). option_eq eqb part (Some place)) c.past_parts.ensures end
+    ∙ parts_decide bytes (entry_off bytes plan) (entry_length bytes plan) (sym c.if-trigger_ok.ensures)
+
+pub returns-else-trigger_ok : goal.returns-else-trigger_ok
+returns-else-trigger_ok c =
+    let bytes = c.args.library.now in
+    c.if-trigger_ok.false ∙ trigger_fails bytes (entry_off bytes c.args.plan) (entry_length bytes c.args.plan) (sym c.if-trigger_ok.ensures)

@@ -1,5 +1,14 @@
 -- `accepted::rules::state_ok` meets its contract: the number of branches decides, then each branch.
+use borrow.Author.Rules.{rules}
+use borrow.Author.Tests.{tests}
+use native.Mathlib.Omega.{arith}
+use mathlib.Core.Path.{refl, ◌∙◌}
+use Prim.Native.Nat.{◌+◌, ◌*◌}
+use Rattle.std.proofs.lemmas.Iterator.{YieldsList-from_range}
+use Rattle.std.proofs.lemmas.Iterator.Search.{all_from_yields_List}
+use Rattle.accepted.specs.Rules.{branch_ok}
 use Rattle.library.specs.Bytes.{branch_at}
+use Rattle.library.proofs.RowLaws.{all_items}
 use Rattle.accepted.proofs.RuleLaws.{state-many, state-few}
 use Rattle.accepted.proofs.rules.state_ok.Goals as goal
 
@@ -7,4 +16,9 @@ pub returns-then-branches-gt-MOST_ITEMS : goal.returns-then-branches-gt-MOST_ITE
 returns-then-branches-gt-MOST_ITEMS c = let a = c.args in state-many (branch_at a.bytes.now) 12 a.count a.state a.branches a.from c.if-branches-gt-MOST_ITEMS.true
 
 pub returns : goal.returns
-returns c = let a = c.args in state-few (branch_at a.bytes.now) 12 a.count a.state a.branches a.from c.if-branches-gt-MOST_ITEMS.false c.branches_ok.result c.branches_ok.ensures
+returns c =
+    let a = c.args in
+    let read = branch_at a.bytes.now in
+    state-few read 12 a.count a.state a.branches a.from c.if-branches-gt-MOST_ITEMS.false _
+    (all_from_yields_List (λ i. branch_ok a.count a.state (read (a.from + 12 * i))) _ _ _ c.all.ensures.ran (YieldsList-from_range 0 a.branches a.branches refl (omega arith)) (λ x b q k. search (rules, tests))
+    ∙ all_items read (branch_ok a.count a.state) 12 a.branches a.from)

@@ -1,27 +1,18 @@
--- `accepted::stages::all_ground` meets its contract. The loop's invariant: what is left decides as the whole does.
-use mathlib.Core.Path.{refl, sym, ap, ◌∙◌}
+-- `accepted::stages::all_ground` meets its contract: the range's numbers test the items.
+use borrow.Author.Rules.{rules}
+use borrow.Author.Tests.{tests}
 use native.Mathlib.Omega.{arith}
+use mathlib.Core.Path.{refl, ◌∙◌}
+use Prim.Native.Nat.{◌+◌, ◌*◌}
+use Rattle.std.proofs.lemmas.Iterator.{YieldsList-from_range}
+use Rattle.std.proofs.lemmas.Iterator.Search.{all_from_yields_List}
 use Rattle.literal.specs.Literal.{is_ground}
 use Rattle.library.specs.Bytes.{literal_at}
-use Rattle.library.proofs.RowLaws.{all-step, all_stop, all_done}
+use Rattle.library.proofs.RowLaws.{all_items}
 use Rattle.accepted.proofs.stages.all_ground.Goals as goal
-
-pub loop-left-init : goal.loop-left-init
-loop-left-init c = (omega arith, omega arith, refl)
-
-pub returns-then-not-is_ground : goal.returns-then-not-is_ground
-returns-then-not-is_ground c =
-    let l = c.loop-left in
-    let fails = ap is_ground (sym c.literal_at-literal.ensures) ∙ sym c.is_ground.ensures ∙ c.if-not-is_ground.true in
-    all_stop is_ground (literal_at c.args.bytes.now) 8 l.left l.at c.loop-left-test.true fails ∙ l.invariant.2
-
-pub loop-left-preserved : goal.loop-left-preserved
-loop-left-preserved c =
-    let l = c.loop-left in
-    let holds = ap is_ground (sym c.literal_at-literal.ensures) ∙ sym c.is_ground.ensures ∙ c.if-not-is_ground.false in
-    (omega arith, omega arith, all-step is_ground (literal_at c.args.bytes.now) 8 l.left l.at c.loop-left-test.true holds ∙ l.invariant.2)
 
 pub returns : goal.returns
 returns c =
-    let l = c.loop-left in
-    all_done is_ground (literal_at c.args.bytes.now) 8 l.left l.at c.loop-left-test.false ∙ l.invariant.2
+    let a = c.args in
+    all_from_yields_List (λ i. is_ground (literal_at a.bytes.now (a.from + 8 * i))) _ _ _ c.all.ensures.ran (YieldsList-from_range 0 a.n a.n refl (omega arith)) (λ x b q k. search (rules, tests))
+    ∙ all_items (literal_at a.bytes.now) is_ground 8 a.n a.from

@@ -3,15 +3,12 @@ use mathlib.Core.Path.{sym, ◌∙◌}
 use Rattle.accepted.proofs.StageLaws.{ground_fails, apart_decides}
 use Rattle.accepted.proofs.stages.beliefs_ok.Goals as goal
 
-pub returns-then-not-all_ground : goal.returns-then-not-all_ground
-returns-then-not-all_ground c =
-    let library = c.args.library.now in
-    let ground = sym c.all_ground.ensures ∙ c.if-not-all_ground.true in
-    ground_fails library _ _ c.plan_count-plans.ensures c.belief_count-beliefs.ensures ground
+pub returns-else-all_ground : goal.returns-else-all_ground
+returns-else-all_ground c =
+    let ground = sym c.all_ground.ensures ∙ c.if-all_ground.false in
+    c.if-all_ground.false ∙ ground_fails c.args.library.now _ _ c.plan_count-plans.ensures c.belief_count-beliefs.ensures ground
 
-pub returns : goal.returns
-returns c =
-    let library = c.args.library.now in
-    let plans = c.plan_count-plans.ensures in
-    let ground = sym c.all_ground.ensures ∙ c.if-not-all_ground.false in
-    c.all_apart.ensures ∙ apart_decides library _ _ plans c.belief_count-beliefs.ensures ground
+pub returns-then-all_ground : goal.returns-then-all_ground
+returns-then-all_ground c =
+    let ground = sym c.all_ground.ensures ∙ c.if-all_ground.true in
+    c.all_apart.ensures ∙ apart_decides c.args.library.now _ _ c.plan_count-plans.ensures c.belief_count-beliefs.ensures ground

@@ -1,31 +1,17 @@
--- `accepted::stages::plans_fit` meets its contract. The loop's invariant: the plans left decide as all of them do.
-use Prim.Native.Nat.{ℕ}
-use mathlib.Core.Path.{refl, sym, ◌∙◌}
+-- `accepted::stages::plans_fit` meets its contract: each plan of the range is tested.
+use borrow.Author.Rules.{rules}
+use borrow.Author.Tests.{tests}
 use native.Mathlib.Omega.{arith}
+use mathlib.Core.Path.{refl, ◌∙◌}
+use Rattle.std.proofs.lemmas.Iterator.{YieldsList-from_range}
+use Rattle.std.proofs.lemmas.Iterator.Search.{all_from_yields_List}
 use Rattle.accepted.specs.Refusal.{plan_fits}
 use Rattle.accepted.proofs.StageLaws.{plans_whole}
-use Rattle.library.proofs.RowLaws.{all-step, all_stop, all_done}
 use Rattle.accepted.proofs.stages.plans_fit.Goals as goal
-
-pub loop-left-init : goal.loop-left-init
-loop-left-init c = (omega arith, omega arith, refl)
-
-pub returns-then-not-plan_fits : goal.returns-then-not-plan_fits
-returns-then-not-plan_fits c =
-    let l = c.loop-left in
-    let bytes = c.args.library.now in
-    let fails = sym c.plan_fits.ensures ∙ c.if-not-plan_fits.true in
-    all_stop (plan_fits bytes) (λ (k : ℕ). k) 1 l.left l.plan c.loop-left-test.true fails ∙ l.invariant.2 ∙ plans_whole bytes _ c.plan_count-left.ensures
-
-pub loop-left-preserved : goal.loop-left-preserved
-loop-left-preserved c =
-    let l = c.loop-left in
-    let bytes = c.args.library.now in
-    let fits = sym c.plan_fits.ensures ∙ c.if-not-plan_fits.false in
-    (omega arith, l.invariant.1, all-step (plan_fits bytes) (λ (k : ℕ). k) 1 l.left l.plan c.loop-left-test.true fits ∙ l.invariant.2)
 
 pub returns : goal.returns
 returns c =
-    let l = c.loop-left in
     let bytes = c.args.library.now in
-    all_done (plan_fits bytes) (λ (k : ℕ). k) 1 l.left l.plan c.loop-left-test.false ∙ l.invariant.2 ∙ plans_whole bytes _ c.plan_count-left.ensures
+    let plans = c.plan_count-plans in
+    all_from_yields_List (plan_fits bytes) _ _ _ c.all.ensures.ran (YieldsList-from_range 0 plans.result plans.result refl (omega arith)) (λ x b q k. search (rules, tests))
+    ∙ plans_whole bytes _ plans.ensures

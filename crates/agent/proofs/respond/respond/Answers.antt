@@ -4,7 +4,7 @@ use mathlib.Core.Path.{ap, sym, subst, subst⁻¹, ◌∙◌}
 use mathlib.Core.Bool.{Bool, true}
 use lib.ListN.{take}
 use lib.Seq.{length-take-le}
-use Rattle.model.specs.declared.Answer.TheVariants.{Refused}
+use Rattle.lists.proofs.ArrayLaws.{length-mapped}
 use Rattle.reading.specs.Spoken.{meaning}
 use Rattle.state.proofs.CountParts.{counts-parts}
 use Rattle.steps.specs.View.{plainly, stack_at}
@@ -21,12 +21,12 @@ returns-then-not-is_well_formed c =
     let a = c.args in
     responds_refused (take a.length a.library.now) a.s (is_well_formed_with a.library.now a.length a.s)
     (sym c.is_well_formed.ensures ∙ c.if-not-is_well_formed.true) (meaning a.spoken) c.acted.result
-    (c.acted.ensures ∙ ap (λ n. plainly a.s (Refused n)) c.refusal_of-refusal.ensures)
+    (c.acted.ensures ∙ ap (plainly a.s) c.unformed_answer.ensures)
 
 pub look_at-look-requires : goal.look_at-look-requires
 look_at-look-requires c =
     let a = c.args in
-    λ e. (counts-parts a.s (test_parts a.library.now a.length a.s (sym c.is_well_formed.ensures ∙ c.if-not-is_well_formed.false)).fit).stacked
+    (record { queue = search (rules, length-mapped); stacks = search (rules, length-mapped) }, λ e. (counts-parts a.s (test_parts a.library.now a.length a.s (sym c.is_well_formed.ensures ∙ c.if-not-is_well_formed.false)).fit).stacked)
 
 pub slice_bounds-own-end : goal.slice_bounds-own-end
 slice_bounds-own-end c =
@@ -53,13 +53,6 @@ pub act-t-requires : goal.act-t-requires
 act-t-requires c =
     let a = c.args in
     ((λ e. test_parts a.library.now a.length a.s (sym c.is_well_formed.ensures ∙ c.if-not-is_well_formed.false)), (c.look_at-look.ensures, ap (stack_at a.s) c.place_of-at.ensures))
-
-pub returns-in_default : goal.returns-in_default
-returns-in_default c =
-    let a = c.args in
-    subst⁻¹ (λ (b : Bool). Responds (take a.length a.library.now) b a.s (meaning a.spoken) c.acted_by.result)
-    (sym c.is_well_formed.ensures ∙ c.if-not-is_well_formed.false)
-    (subst⁻¹ (Responds (take a.length a.library.now) true a.s (meaning a.spoken)) c.acted_by.ensures c.act-t.ensures)
 
 pub returns : goal.returns
 returns c =

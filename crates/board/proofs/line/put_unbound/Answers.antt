@@ -1,7 +1,7 @@
--- `board::line::put_unbound` meets its contract: a byte after the other.
-use Rattle.writing.proofs.WritingLaws.{then}
+-- `board::line::put_unbound` meets its contract: the bytes are copied.
+use mathlib.Core.List.{[], ◌∷◌}
+use Rattle.writing.proofs.WritingLaws.{copied}
 use Rattle.board.proofs.line.put_unbound.Goals as goal
 
 pub returns : goal.returns
-returns c =
-    then c.put-a.ensures (then c.put-b.ensures (then c.put-c.ensures (then c.put-d.ensures (then c.put-e.ensures c.put.ensures))))
+returns c = rw c.copy_from_slice.ensures.after (copied c.args.out.now (32 ∷ 32 ∷ 32 ∷ 32 ∷ 32 ∷ 45 ∷ []) c.args.at c.requires)

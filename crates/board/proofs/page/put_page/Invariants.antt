@@ -1,5 +1,5 @@
 -- `board::page::put_page` meets its contract. The loop's invariant: the lines of the first i stacks are written.
-use Prim.Native.Nat.{◌*◌, ◌-◌, ◌≤◌}
+use Prim.Native.Nat.{◌*◌}
 use mathlib.Core.Path.{◌≡◌}
 use lib.ListN.{length, take}
 use Rattle.state.specs.View.{view_stacks}
@@ -9,8 +9,5 @@ use Rattle.board.proofs.page.put_page.Given as goal
 
 abbrev pub invariant-loop-done : goal.invariant-loop-done
 invariant-loop-done l =
-    (l.done ≤ l.n) × (length l.out ≡ length l.initial.out)
+    (length l.out ≡ length l.initial.out)
     × Wrote (line_bytes * length (rows_of (take l.done (view_stacks l.s)))) l.initial.out l.out 0 l.o (page_of (take l.done (view_stacks l.s)))
-
-abbrev pub decreases-loop-done : goal.decreases-loop-done
-decreases-loop-done l = l.n - l.done

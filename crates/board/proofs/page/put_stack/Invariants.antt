@@ -1,5 +1,5 @@
 -- `board::page::put_stack` meets its contract. The loop's invariant: the lines of the lowest i instances are written.
-use Prim.Native.Nat.{◌*◌, ◌-◌, ◌≤◌}
+use Prim.Native.Nat.{◌*◌}
 use mathlib.Core.Path.{◌≡◌}
 use lib.ListN.{length}
 use Rattle.lists.specs.Counts.{each}
@@ -10,7 +10,4 @@ use Rattle.board.proofs.page.put_stack.Given as goal
 
 abbrev pub invariant-loop-i : goal.invariant-loop-i
 invariant-loop-i l =
-    (l.i ≤ l.n) × (length l.out ≡ length l.initial.out) × Wrote (line_bytes * l.i) l.initial.out l.out l.at l.o (each line_text (rows_on l.number (down l.i l.stack.below)))
-
-abbrev pub decreases-loop-i : goal.decreases-loop-i
-decreases-loop-i l = l.n - l.i
+    (length l.out ≡ length l.initial.out) × Wrote (line_bytes * l.i) l.initial.out l.out l.at l.o (each line_text (rows_on l.number (down l.i l.stack.below)))

@@ -1,5 +1,4 @@
 -- `image::beliefs::beliefs_at` meets its contract. The loop's invariant: the first i places are read.
-use borrow.Author.Rules.{rules}
 use native.Mathlib.Omega.{arith}
 use Prim.Native.Nat.{ℕ, ◌+◌, ◌<◌, min}
 use mathlib.Core.Path.{◌≡◌, refl, ap, ◌∙◌}
@@ -14,7 +13,7 @@ use Rattle.image.proofs.beliefs.beliefs_at.Goals as goal
 
 pub loop-i-init : goal.loop-i-init
 unfolding Bytes.items
-loop-i-init c = (omega arith, refl, refl)
+loop-i-init c = (refl, refl)
 
 pub loop-i-preserved : goal.loop-i-preserved
 loop-i-preserved c =
@@ -23,16 +22,16 @@ loop-i-preserved c =
     let next =
     read_next (literal_at c.args.image.now) literal_size
     (c.args.at + word_size) xs c.loop-i.i _ low
-    c.literal_at-l.ensures c.loop-i.invariant.2 in
-    (search rules, length-set xs _ _ ∙ c.loop-i.invariant.1, next)
+    c.literal_at-l.ensures c.loop-i.invariant.1 in
+    (length-set xs _ _ ∙ c.loop-i.invariant.0, next)
 
 pub returns : goal.returns
 unfolding beliefs_at
 returns c =
-    let n = c.least-n.result in
+    let n = c.min-n.result in
     let last : c.loop-i.i ≡ n = omega arith in
     let size =
-    c.least-n.ensures
+    c.min-n.ensures
     ∙ ap (λ (k : ℕ). min k most_beliefs) c.u16_at.ensures in
-    let full : min n most_beliefs ≡ n = omega (arith, c.least-n.ensures) in
-    record { places = c.loop-i.invariant.1; few = omega (arith, c.least-n.ensures); means = rw (full, ← size, ← last) c.loop-i.invariant.2 }
+    let full : min n most_beliefs ≡ n = omega (arith, c.min-n.ensures) in
+    record { places = c.loop-i.invariant.0; few = omega (arith, c.min-n.ensures); means = rw (full, ← size, ← last) c.loop-i.invariant.1 }

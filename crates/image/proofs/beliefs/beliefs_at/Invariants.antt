@@ -1,5 +1,5 @@
 -- `image::beliefs::beliefs_at` meets its contract. The loop's invariant: the first i places are read.
-use Prim.Native.Nat.{◌+◌, ◌≤◌, ◌-◌}
+use Prim.Native.Nat.{◌+◌}
 use mathlib.Core.Path.{◌≡◌}
 use lib.ListN.{length, take}
 use Rattle.belief.specs.Beliefs.{most_beliefs}
@@ -11,7 +11,4 @@ use Rattle.image.proofs.beliefs.beliefs_at.Given as goal
 
 abbrev pub invariant-loop-i : goal.invariant-loop-i
 invariant-loop-i l =
-    (l.i ≤ l.n) × (length l.items ≡ most_beliefs) × (take l.i l.items ≡ Bytes.items (literal_at l.image) literal_size l.i (l.at + word_size))
-
-abbrev pub decreases-loop-i : goal.decreases-loop-i
-decreases-loop-i l = l.n - l.i
+    (length l.items ≡ most_beliefs) × (take l.i l.items ≡ Bytes.items (literal_at l.image) literal_size l.i (l.at + word_size))

@@ -1,7 +1,6 @@
--- `image::beliefs::put_beliefs` meets its contract. The loop's invariant: the first i beliefs are written.
+-- `image::beliefs::put_beliefs` meets its contract. one part more, and all of them at the end.
 use borrow.Author.Rules.{rules}
 use native.Mathlib.Omega.{arith}
-use Prim.Native.Nat.{◌<◌}
 use mathlib.Core.Path.{◌≡◌, refl, ◌∙◌}
 use lib.ListN.{length, take}
 use lib.Seq.{length-take-le}
@@ -9,26 +8,33 @@ use Rattle.lists.proofs.ArrayLaws.{length-mapped}
 use Rattle.belief.specs.Beliefs.{most_beliefs}
 use Rattle.writing.proofs.WritingLaws.{then, widen, nothing}
 use Rattle.image.specs.BeliefImage.{literal_size, literal_bytes, beliefs_bytes}
-use Rattle.image.proofs.WordLaws.{next_part}
+use Rattle.image.proofs.WordLaws.{next_part, all_parts}
 use Rattle.image.proofs.beliefs.put_beliefs.Goals as goal
 
-pub loop-i-init : goal.loop-i-init
-loop-i-init c = (omega arith, refl, nothing)
+pub loop-l-init : goal.loop-l-init
+loop-l-init c = record { kept = refl; written = nothing }
 
-pub loop-i-preserved : goal.loop-i-preserved
-loop-i-preserved c =
-    let items = c.args.table.items in
+pub put_literal-o-requires : goal.put_literal-o-requires
+put_literal-o-requires c =
+    let n = c.size_of-n.result in
+    let size = c.size_of-n.ensures in
     let long : length c.args.table.items ≡ most_beliefs = search (rules, length-mapped) in
-    let low : c.loop-i.i < length items = omega arith in
-    (search rules, c.put_literal-o.auto.out ∙ c.loop-i.invariant.1, next_part literal_bytes literal_size items c.loop-i.i _ low c.loop-i.invariant.2 c.put_literal-o.ensures)
+    let items = take n c.args.table.items in
+    let count : length items ≡ n = length-take-le n c.args.table.items (omega (arith, size)) in
+    omega (arith, count, c.put_word-o.ensures.within, c.loop-l.invariant.written.within)
+
+pub loop-l-preserved : goal.loop-l-preserved
+loop-l-preserved c = record {
+  kept = c.put_literal-o.auto.out ∙ c.loop-l.invariant.kept;
+  written = next_part literal_bytes literal_size (take c.size_of-n.result c.args.table.items) c.loop-l.l-index _ c.loop-l-test.true c.loop-l.invariant.written c.put_literal-o.ensures;
+}
 
 pub returns : goal.returns
 unfolding beliefs_bytes
 returns c =
-    let items = c.args.table.items in
-    let long : length c.args.table.items ≡ most_beliefs = search (rules, length-mapped) in
     let n = c.size_of-n.result in
     let size = c.size_of-n.ensures in
-    let last : c.loop-i.i ≡ n = omega arith in
-    let count : length (take n items) ≡ n = length-take-le n items (omega (arith, size)) in
-    rw (← size, count) (widen (omega (arith, size)) (then c.put_word-o.ensures (rw last at c.loop-i.invariant.2)))
+    let long : length c.args.table.items ≡ most_beliefs = search (rules, length-mapped) in
+    let items = take n c.args.table.items in
+    let count : length items ≡ n = length-take-le n c.args.table.items (omega (arith, size)) in
+    rw (← size, count) (widen (omega (arith, size, count)) (then c.put_word-o.ensures (all_parts literal_bytes literal_size items c.loop-l.l-index (omega arith) c.loop-l.invariant.written)))

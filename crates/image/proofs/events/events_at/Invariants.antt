@@ -1,5 +1,4 @@
 -- `image::events::events_at` meets its contract. The loop's invariant: the first i places are read.
-use Prim.Native.Nat.{◌≤◌, ◌-◌}
 use mathlib.Core.Path.{◌≡◌}
 use lib.ListN.{length, take}
 use Rattle.library.specs.Bytes.{items}
@@ -8,7 +7,4 @@ use Rattle.image.specs.EventImage.{event_size, event_at}
 use Rattle.image.proofs.events.events_at.Given as goal
 
 abbrev pub invariant-loop-i : goal.invariant-loop-i
-invariant-loop-i l = (l.i ≤ l.n) × (length l.queue ≡ most_queued) × (take l.i l.queue ≡ items (event_at l.form l.image) (event_size l.form) l.i l.at)
-
-abbrev pub decreases-loop-i : goal.decreases-loop-i
-decreases-loop-i l = l.n - l.i
+invariant-loop-i l = (length l.queue ≡ most_queued) × (take l.i l.queue ≡ items (event_at l.form l.image) (event_size l.form) l.i l.at)

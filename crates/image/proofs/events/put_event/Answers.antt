@@ -9,11 +9,8 @@ use Rattle.image.proofs.events.put_event.Goals as goal
 pub returns : goal.returns
 unfolding event_bytes
 returns c =
-    let code = c.origin_code-code.ensures in
-    let state = c.origin_state-state.ensures in
-    let branch = c.origin_branch-branch.ensures in
-    let number = c.origin_number-number.ensures in
+    let origin = c.origin_fields-code.ensures in
     let e = c.args.event in
     let l = e.literal in
     let tail = l.head ∷ l.first ∷ l.second ∷ l.third ∷ e.failed % 65536 ∷ e.failed / 65536 ∷ [] in
-    written (λ i. words_bytes (code i ∷ state i ∷ branch i ∷ e.kind ∷ tail) ++ number_bytes c.args.form (number i)) (then c.put_words-o.ensures c.put_number.ensures)
+    written (λ i. words_bytes ((origin i).0 ∷ (origin i).1 ∷ (origin i).2 ∷ e.kind ∷ tail) ++ number_bytes c.args.form (origin i).3) (then c.put_words-o.ensures c.put_number.ensures)

@@ -1,39 +1,41 @@
--- `image::parts::library_in` meets its contract. The loop's invariant: the first i bytes are copied.
+-- `image::parts::library_in` meets its contract: the bytes of the image are copied; none where it ends before them.
 use native.Mathlib.Omega.{arith}
-use Prim.Native.Nat.{ℕ, ◌<◌}
-use mathlib.Core.Path.{◌≡◌, refl, ap, ◌∙◌}
-use lib.ListN.{length, take, drop, length-set, length-drop, length-replicate}
+use Prim.Native.Nat.{ℕ, ◌≤◌}
+use mathlib.Core.List.{List}
+use mathlib.Core.Path.{◌≡◌, ap, ◌∙◌}
+use lib.ListN.{length, replicate, length-replicate}
 use Rattle.accepted.specs.Refusal.{most_bytes}
-use Rattle.image.specs.Image.{contents_size}
 use Rattle.image.specs.Reads.{size_in}
-use Rattle.image.proofs.PartLaws.{copy_next, library_copied}
+use Rattle.image.proofs.PartLaws.{copied_part, copied_places, library_copied}
 use Rattle.image.proofs.parts.library_in.Goals as goal
 
-pub loop-i-init : goal.loop-i-init
-loop-i-init c = (omega arith, length-replicate {A = ℕ} most_bytes 0, refl, c.library_size-size.ensures)
-
-pub loop-i-preserved : goal.loop-i-preserved
-loop-i-preserved c =
-    let image = c.args.image.now in
-    let l = c.loop-i in
-    let from = c.contents_size-from.result in
-    let there = length-drop from image in
-    let p : l.i < length l.bytes = omega arith in
-    let q : l.i < length (drop from image) = omega arith in
-    (omega arith, length-set l.bytes l.i _ ∙ l.invariant.1, copy_next from image l.bytes l.i p q l.invariant.2, l.invariant.3)
-
-pub returns : goal.returns
-returns c =
+pub returns-in-Some : goal.returns-in-Some
+returns-in-Some c =
     let a = c.args in
-    let l = c.loop-i in
     let n = c.library_size-size in
     let from = c.contents_size-from.ensures.value in
-    let last : l.i ≡ n.result = omega arith in
     let size = n.ensures ∙ ap (size_in a.image.now) from in
-    let copied : take n.result l.bytes ≡ take n.result (drop (contents_size a.form) a.image.now) =
-    rw (← from, ← last) l.invariant.2 in
+    let part = c.in-Some.ensures.lookup.0 in
+    let size_of_part : length c.in-Some.library.now ≡ n.result = omega (arith, part.3) in
+    let long : length c.copy_from_slice.new.self ≡ n.result = ap length c.copy_from_slice.ensures.after ∙ size_of_part in
+    let few : n.result ≤ most_bytes = omega (arith, size) in
+    let zeros : List ℕ = replicate {A = ℕ} most_bytes 0 in
+    record {
+      few = few;
+      places = copied_places n.result zeros _ (length-replicate {A = ℕ} most_bytes 0) long few;
+      means = library_copied a.form a.image.now _ n.result size
+          (rw (c.copy_from_slice.ensures.after, ← from) (copied_part c.contents_size-from.result n.result a.image.now zeros c.in-Some.library.now part.2 size_of_part));
+    }
+
+pub returns-in_default : goal.returns-in_default
+returns-in_default c =
+    let a = c.args in
+    let n = c.library_size-size in
+    let from = c.contents_size-from.ensures.value in
+    let size = n.ensures ∙ ap (size_in a.image.now) from in
+    let none_there : n.result ≡ 0 = omega (arith, n.ensures, c.in_default.ensures.lookup.0) in
     record {
       few = omega (arith, size);
-      places = l.invariant.1;
-      means = library_copied a.form a.image.now l.bytes n.result size copied;
+      places = length-replicate {A = ℕ} most_bytes 0;
+      means = library_copied a.form a.image.now _ n.result size (rw none_there);
     }

@@ -13,5 +13,5 @@ returns c =
     let a = c.args in
     let there : c.u16_at-c.result + c.numbers_size.result ≡ c.u16_at-c.result + number_size a.form = omega (arith, c.numbers_size.ensures.value) in
     read-state a.form a.image.now _ _ _ _ _ c.u16_at-b.ensures c.u16_at-e.ensures c.u16_at-k.ensures c.u16_at-c.ensures c.beliefs_at-beliefs.ensures
-    (c.least-queued.ensures ∙ ap (λ (k : ℕ). min k most_queued) c.u16_at.ensures) c.events_at-queue.ensures c.stacks_at-row.ensures c.number_at-taken.ensures
+    (c.min-queued.ensures ∙ ap (λ (k : ℕ). min k most_queued) c.u16_at.ensures) c.events_at-queue.ensures c.stacks_at-row.ensures c.number_at-taken.ensures
     (c.number_at-made.ensures ∙ ap (number_at a.form a.image.now) there)

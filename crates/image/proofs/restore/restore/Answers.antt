@@ -1,5 +1,5 @@
 -- `image::restore::restore` meets its contract: 12, then 10, else the agent.
-use mathlib.Core.Path.{refl, sym, ◌∙◌}
+use mathlib.Core.Path.{sym, ◌∙◌}
 use Rattle.image.proofs.RestoreLaws.{image_test, formed_test, refused-image, refused_formed, restored}
 use Rattle.image.proofs.restore.restore.Goals as goal
 
@@ -11,7 +11,7 @@ returns-then-not-is_image_of c =
     let copy = c.library_in-copy in
     let state = c.state_in-state in
     let first = image_test image form same copy.result state.result copy.ensures state.ensures in
-    refused-image image c.refused.result (sym first ∙ sym c.is_image_of.ensures ∙ c.if-not-is_image_of.true) c.refused.ensures
+    refused-image image (sym first ∙ sym c.is_image_of.ensures ∙ c.if-not-is_image_of.true)
 
 pub returns-then-not-is_well_formed : goal.returns-then-not-is_well_formed
 returns-then-not-is_well_formed c =
@@ -22,8 +22,8 @@ returns-then-not-is_well_formed c =
     let state = c.state_in-state in
     let first = image_test image form same copy.result state.result copy.ensures state.ensures in
     let second = formed_test image form same copy.result state.result copy.ensures state.ensures in
-    refused_formed image c.refused-then-not-is_well_formed.result (sym first ∙ sym c.is_image_of.ensures ∙ c.if-not-is_image_of.false)
-    (sym second ∙ sym c.is_well_formed.ensures ∙ c.if-not-is_well_formed.true) c.refused-then-not-is_well_formed.ensures
+    refused_formed image (sym first ∙ sym c.is_image_of.ensures ∙ c.if-not-is_image_of.false)
+    (sym second ∙ sym c.is_well_formed.ensures ∙ c.if-not-is_well_formed.true)
 
 pub returns : goal.returns
 returns c =
@@ -34,5 +34,5 @@ returns c =
     let state = c.state_in-state in
     let first = image_test image form same copy.result state.result copy.ensures state.ensures in
     let second = formed_test image form same copy.result state.result copy.ensures state.ensures in
-    restored image _ form same copy.result state.result copy.ensures state.ensures
-    (sym first ∙ sym c.is_image_of.ensures ∙ c.if-not-is_image_of.false) (sym second ∙ sym c.is_well_formed.ensures ∙ c.if-not-is_well_formed.false) refl
+    restored image form same copy.result state.result copy.ensures state.ensures
+    (sym first ∙ sym c.is_image_of.ensures ∙ c.if-not-is_image_of.false) (sym second ∙ sym c.is_well_formed.ensures ∙ c.if-not-is_well_formed.false)

@@ -5,13 +5,8 @@ use lib.Seq.{length-take-le}
 use Rattle.accepted.proofs.Size.{library_most}
 use Rattle.formed.proofs.WellFormedLaws.{test_within, test_parts}
 use Rattle.load.specs.Load.{bytes_of}
-use Rattle.image.proofs.SaveLaws.{unformed, short, saved}
+use Rattle.image.proofs.SaveLaws.{short, saved}
 use Rattle.image.proofs.save.save.Goals as goal
-
-pub returns-then-not-is_well_formed : goal.returns-then-not-is_well_formed
-returns-then-not-is_well_formed c =
-    unformed c.args.a _ _
-    (sym c.is_well_formed.ensures ∙ c.if-not-is_well_formed.true) refl
 
 pub slice_bounds-library-end : goal.slice_bounds-library-end
 slice_bounds-library-end c = test_within _ _ _ (sym c.is_well_formed.ensures ∙ c.if-not-is_well_formed.false)
@@ -27,8 +22,12 @@ write_image-n-requires c =
 
 pub returns-then-out-n : goal.returns-then-out-n
 returns-then-out-n c =
-    short c.args.a _ _ _
-    (sym c.is_well_formed.ensures ∙ c.if-not-is_well_formed.false) c.write_image-n.ensures _ (omega (arith, c.if-out-n.true)) refl
+    record {
+      number =
+          short c.args.a _ c.args.out.now _ (sym c.is_well_formed.ensures ∙ c.if-not-is_well_formed.false) c.write_image-n.ensures
+          (omega (arith, c.if-out-n.true));
+      unwritten = refl;
+    }
 
 pub slice_bounds-written-end : goal.slice_bounds-written-end
 slice_bounds-written-end c = sym (length-take-le _ _ c.write_image-n.ensures.room)
@@ -46,4 +45,4 @@ returns c =
     length-take-le c.write_image-n.result
     c.write_image-n.new.out
     c.write_image-n.ensures.room in
-    saved c.args.a _ _ _ formed c.write_image-n.ensures _ (omega (arith, c.if-out-n.false)) (omega (arith, size)) c.put_bytes.ensures refl
+    saved c.args.a _ _ _ formed c.write_image-n.ensures (omega (arith, c.if-out-n.false)) (omega (arith, size)) c.put_bytes.ensures

@@ -1,5 +1,4 @@
 -- `image::stacks::stack_at` meets its contract. The loop's invariant: the first i places below the top are read.
-use borrow.Author.Rules.{rules}
 use native.Mathlib.Omega.{arith}
 use Prim.Native.Nat.{◌+◌, ◌<◌, ◌*◌}
 use mathlib.Core.Path.{◌≡◌, refl, ap, ◌∙◌}
@@ -13,7 +12,7 @@ use Rattle.image.proofs.stacks.stack_at.Goals as goal
 
 pub loop-i-init : goal.loop-i-init
 unfolding items
-loop-i-init c = (omega arith, refl, refl)
+loop-i-init c = (refl, refl)
 
 pub loop-i-preserved : goal.loop-i-preserved
 loop-i-preserved c =
@@ -24,8 +23,8 @@ loop-i-preserved c =
     let place : first + instance_fields * l.i + c.numbers_size-in-loop-i.result ≡ a.at + stack_fields a.form + instance_size a.form * l.i =
     omega (arith, c.numbers_size.ensures.value, c.numbers_size-in-loop-i.ensures.value) in
     let read = c.instance_at-x.ensures ∙ ap (instance_at a.form a.image.now) place in
-    let next = read_next (instance_at a.form a.image.now) (instance_size a.form) (a.at + stack_fields a.form) l.below l.i _ low read l.invariant.2 in
-    (search rules, length-set l.below _ _ ∙ l.invariant.1, next)
+    let next = read_next (instance_at a.form a.image.now) (instance_size a.form) (a.at + stack_fields a.form) l.below l.i _ low read l.invariant.1 in
+    (length-set l.below _ _ ∙ l.invariant.0, next)
 
 pub returns : goal.returns
 returns c =
@@ -37,5 +36,5 @@ returns c =
     let place : first + instance_fields * depth + c.numbers_size-2.result ≡ a.at + stack_fields a.form + instance_size a.form * depth =
     omega (arith, c.numbers_size.ensures.value, c.numbers_size-2.ensures.value) in
     let top = c.instance_at-top.ensures ∙ ap (instance_at a.form a.image.now) place in
-    read-stack a.form a.image.now a.at depth _ _ l.below c.depth_at-depth.ensures.value l.invariant.1 c.number_at-external.ensures top
-    (rw last at l.invariant.2)
+    read-stack a.form a.image.now a.at depth _ _ l.below c.depth_at-depth.ensures.value l.invariant.0 c.number_at-external.ensures top
+    (rw last at l.invariant.1)

@@ -1,5 +1,5 @@
 -- `image::stacks::stack_at` meets its contract. The loop's invariant: the first i places below the top are read.
-use Prim.Native.Nat.{◌+◌, ◌≤◌, ◌-◌}
+use Prim.Native.Nat.{◌+◌}
 use mathlib.Core.Path.{◌≡◌}
 use lib.ListN.{length, take}
 use Rattle.library.specs.Bytes.{items}
@@ -8,7 +8,4 @@ use Rattle.image.specs.StackImage.{instance_size, instance_at, stack_fields}
 use Rattle.image.proofs.stacks.stack_at.Given as goal
 
 abbrev pub invariant-loop-i : goal.invariant-loop-i
-invariant-loop-i l = (l.i ≤ l.depth) × (length l.below ≡ most_below) × (take l.i l.below ≡ items (instance_at l.form l.image) (instance_size l.form) l.i (l.at + stack_fields l.form))
-
-abbrev pub decreases-loop-i : goal.decreases-loop-i
-decreases-loop-i l = l.depth - l.i
+invariant-loop-i l = (length l.below ≡ most_below) × (take l.i l.below ≡ items (instance_at l.form l.image) (instance_size l.form) l.i (l.at + stack_fields l.form))

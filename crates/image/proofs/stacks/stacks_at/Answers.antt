@@ -1,11 +1,9 @@
 -- `image::stacks::stacks_at` meets its contract. The loop's invariant: the first i stacks are read.
-use borrow.Author.Rules.{rules}
 use native.Mathlib.Omega.{arith}
 use Prim.Native.Nat.{ℕ, ◌+◌, ◌<◌, min}
 use mathlib.Core.Path.{◌≡◌, refl, ap, ◌∙◌}
 use lib.ListN.{length, length-set}
 use borrow.Author.Tests.{le-leb}
-use Rattle.lists.specs.Search.{all}
 use Rattle.model.specs.State.{most_stacks}
 use Rattle.state.specs.View.{most_below}
 use Rattle.image.specs.Words.{word_size}
@@ -15,8 +13,8 @@ use Rattle.image.proofs.RowLaws.{read_more, depths_more, end_more}
 use Rattle.image.proofs.stacks.stacks_at.Goals as goal
 
 pub loop-i-init : goal.loop-i-init
-unfolding row_end row all
-loop-i-init c = (omega arith, refl, refl, omega arith, refl, refl)
+unfolding row_end row
+loop-i-init c = (refl, refl, omega arith, refl, refl)
 
 pub stack_size-o-requires : goal.stack_size-o-requires
 stack_size-o-requires c = c.stack_at-stack.ensures.low
@@ -33,19 +31,18 @@ loop-i-preserved c =
     let got = c.stack_at-stack in
     let size = c.stack_size-o in
     let low : loop.i < length loop.items = omega arith in (
-      search rules,
-      length-set loop.items loop.i got.result ∙ loop.invariant.1,
-      ap (λ (n : ℕ). loop.o + n) size.ensures.value ∙ end_more form image at loop.i loop.o got.result.depth loop.invariant.2 got.ensures.depth,
+      length-set loop.items loop.i got.result ∙ loop.invariant.0,
+      ap (λ (n : ℕ). loop.o + n) size.ensures.value ∙ end_more form image at loop.i loop.o got.result.depth loop.invariant.1 got.ensures.depth,
       omega (arith, size.ensures.small),
-      read_more (stack_at form image) (stack_size_at form image) at loop.items loop.i got.result low (got.ensures.means ∙ ap (stack_at form image) loop.invariant.2) loop.invariant.4,
-      depths_more loop.items loop.i got.result low (le-leb got.result.depth most_below got.ensures.low) loop.invariant.5,
+      read_more (stack_at form image) (stack_size_at form image) at loop.items loop.i got.result low (got.ensures.means ∙ ap (stack_at form image) loop.invariant.1) loop.invariant.3,
+      depths_more loop.items loop.i got.result low (le-leb got.result.depth most_below got.ensures.low) loop.invariant.4,
     )
 
 pub returns : goal.returns
 unfolding stacks_at
 returns c =
     let loop = c.loop-i in
-    let n = c.least-count.result in
+    let n = c.min-count.result in
     let last : loop.i ≡ n = omega arith in
-    let size = c.least-count.ensures ∙ ap (λ (k : ℕ). min k most_stacks) c.u16_at.ensures in
-    record { few = omega (arith, c.least-count.ensures); means = rw (← size, ← last) loop.invariant.4; depths = rw (← last) loop.invariant.5 }
+    let size = c.min-count.ensures ∙ ap (λ (k : ℕ). min k most_stacks) c.u16_at.ensures in
+    record { few = omega (arith, c.min-count.ensures); means = rw (← size, ← last) loop.invariant.3; depths = rw (← last) loop.invariant.4 }

@@ -1,11 +1,11 @@
 -- `image::stacks::stacks_at` meets its contract. The loop's invariant: the first i stacks are read.
-use Prim.Native.Nat.{◌+◌, ◌≤◌, ◌-◌, ◌*◌}
+use Prim.Native.Nat.{◌+◌, ◌≤◌, ◌*◌}
 use mathlib.Core.Path.{◌≡◌}
 use mathlib.Core.Bool.{true}
 use mathlib.Core.List.{map}
 use lib.Dec.{leb}
 use lib.ListN.{length, take}
-use Rattle.lists.specs.Search.{all}
+use Rattle.std.specs.List.{list_all}
 use Rattle.model.specs.State.{most_stacks}
 use Rattle.state.specs.declared.Stack.{Stack}
 use Rattle.state.specs.View.{most_below, view_stack}
@@ -17,9 +17,6 @@ use Rattle.image.proofs.stacks.stacks_at.Given as goal
 
 abbrev pub invariant-loop-i : goal.invariant-loop-i
 invariant-loop-i l =
-    (l.i ≤ l.count) × (length l.items ≡ most_stacks) × (l.o ≡ row_end (stack_size_at l.form l.image) l.i (l.at + word_size)) × (l.o ≤ l.at + word_size + stack_size newest most_below * l.i)
+    (length l.items ≡ most_stacks) × (l.o ≡ row_end (stack_size_at l.form l.image) l.i (l.at + word_size)) × (l.o ≤ l.at + word_size + stack_size newest most_below * l.i)
     × (map view_stack (take l.i l.items) ≡ row (stack_at l.form l.image) (stack_size_at l.form l.image) l.i (l.at + word_size))
-    × (all (λ (stack : Stack). leb stack.depth most_below) (take l.i l.items) ≡ true)
-
-abbrev pub decreases-loop-i : goal.decreases-loop-i
-decreases-loop-i l = l.count - l.i
+    × (list_all (λ (stack : Stack). leb stack.depth most_below) (take l.i l.items) ≡ true)

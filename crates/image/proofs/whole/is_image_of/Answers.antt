@@ -6,7 +6,7 @@ use lib.ListN.{length}
 use lib.Seq.{length-take-le}
 use Rattle.lists.proofs.ArrayLaws.{length-mapped}
 use Rattle.accepted.specs.Refusal.{most_bytes}
-use Rattle.image.specs.Image.{same_bytes}
+use Rattle.std.specs.Str.{bytes_eq}
 use borrow.Author.Rules.{rules}
 use Rattle.image.proofs.whole.is_image_of.Goals as goal
 
@@ -20,8 +20,8 @@ write_image-n-requires c =
     let long : length c.args.library ≡ most_bytes = search (rules, length-mapped) in
     (omega arith, omega (arith, length-take-le c.args.size c.args.library (omega (arith, c.requires)), c.requires))
 
-pub slice_bounds-written-end : goal.slice_bounds-written-end
-slice_bounds-written-end c = sym (length-take-le _ _ c.write_image-n.ensures.room)
+pub slice_bounds-eq-end : goal.slice_bounds-eq-end
+slice_bounds-eq-end c = sym (length-take-le _ _ c.write_image-n.ensures.room)
 
 pub returns : goal.returns
-returns c = c.is_same.ensures ∙ ap (same_bytes c.args.image.now) c.write_image-n.ensures.image
+returns c = c.eq.ensures ∙ ap (bytes_eq c.args.image.now) c.write_image-n.ensures.image

@@ -1,32 +1,21 @@
--- `library::bytes::literal_at` meets its contract: byte by byte; past the end all are 0.
-use Prim.Native.Nat.{ℕ, ◌+◌, ◌*◌}
-use native.Mathlib.Omega.{arith}
+-- `library::bytes::literal_at` meets its contract: byte by byte, or number by number where some are past the end.
+use borrow.Author.Rules.{rules}
 use mathlib.Core.Path.{◌≡◌, sym, ◌∙◌}
-use mathlib.Core.List.{List}
-use lib.ListN.{get_or}
+use Prim.Native.Nat.{◌+◌}
 use Rattle.library.specs.Bytes.{u16_at}
-use Rattle.library.proofs.PastEnd.{literal-past}
+use Rattle.library.proofs.PastEnd.{literal_past}
 use Rattle.library.proofs.bytes.literal_at.Goals as goal
 
--- the number whose bytes stand one after the other
-pair : (bytes : List ℕ) (low high : ℕ) → high ≡ low + 1 → get_or bytes low 0 + 256 * get_or bytes high 0 ≡ u16_at bytes low
-unfolding u16_at
-pair bytes low high e = rw e
-
 pub returns-then-bytes-at : goal.returns-then-bytes-at
-returns-then-bytes-at c =
-    let a = c.args in
-    c.no_literal.ensures ∙ sym (literal-past a.bytes.now a.at c.if-bytes-at.true)
+returns-then-bytes-at c = c.no_literal.ensures ∙ sym (literal_past c.args.bytes.now c.args.at c.if-bytes-at.true)
 
 pub returns : goal.returns
+unfolding u16_at
 returns c =
-    let a = c.args in
-    let bytes = a.bytes.now in
-    let one = c.number-head.ensures in
-    let two = c.number-first.ensures in
-    let three = c.number-second.ensures in
-    let head = one ∙ pair bytes a.at _ (omega arith) in
-    let first = two ∙ pair bytes (a.at + 2) _ (omega arith) in
-    let second = three ∙ pair bytes (a.at + 4) _ (omega arith) in
-    let third = c.number-third.ensures ∙ pair bytes (a.at + 6) _ (omega arith) in
+    let bytes = c.args.bytes.now in
+    let at = c.args.at in
+    let head : c.from_le_bytes.result ≡ u16_at bytes at = search rules in
+    let first : c.from_le_bytes-2.result ≡ u16_at bytes (at + 2) = search rules in
+    let second : c.from_le_bytes-3.result ≡ u16_at bytes (at + 4) = search rules in
+    let third : c.from_le_bytes-4.result ≡ u16_at bytes (at + 6) = search rules in
     λ i. record { head = head i; first = first i; second = second i; third = third i }

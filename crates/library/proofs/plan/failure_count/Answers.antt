@@ -7,4 +7,4 @@ use Rattle.library.proofs.plan.failure_count.Goals as goal
 
 pub returns : goal.returns
 unfolding plan_at
-returns c = c.u16_at.ensures ∙ ap (u16_at c.args.library.now) c.failure_offset-at.ensures.value ∙ sym (length-actions c.args.library.now _)
+returns c = c.u16_at.ensures ∙ ap (u16_at c.args.library.now) c.failure_offset.ensures.value ∙ sym (length-actions c.args.library.now _)

@@ -7,4 +7,4 @@ use Rattle.library.proofs.plan.state_count.Goals as goal
 
 pub returns : goal.returns
 unfolding plan_at
-returns c = c.u16_at.ensures ∙ ap (u16_at c.args.library.now) c.states_offset-at.ensures.value ∙ sym (length-states c.args.library.now _)
+returns c = c.u16_at.ensures ∙ ap (u16_at c.args.library.now) c.states_offset.ensures.value ∙ sym (length-states c.args.library.now _)

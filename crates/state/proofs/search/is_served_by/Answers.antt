@@ -3,17 +3,23 @@ use borrow.Author.Rules.{rules}
 use mathlib.Core.Path.{◌≡◌, sym, ◌∙◌}
 use lib.ListN.{length}
 use Rattle.lists.proofs.ArrayLaws.{length-mapped}
+use Rattle.model.specs.declared.Origin.TheVariants.{External}
+use Rattle.model.specs.Live.{same_origin}
 use Rattle.state.proofs.SearchSteps.{served_bottom, served_above}
 use Rattle.state.proofs.search.is_served_by.Goals as goal
 
-pub returns-then-same_origin : goal.returns-then-same_origin
-returns-then-same_origin c =
+pub returns-then-eq : goal.returns-then-eq
+unfolding same_origin
+returns-then-eq c =
     let a = c.args in
-    let len : length a.stack.below ≡ 7 = search (rules, length-mapped) in
-    served_bottom a.origin a.stack len (sym c.same_origin.ensures ∙ c.if-same_origin.true)
+    let len : length a.stack.now.below ≡ 7 = search (rules, length-mapped) in
+    let same : c.eq.result ≡ same_origin a.origin (External a.stack.now.external) = search rules in
+    c.if-eq.true ∙ served_bottom a.origin a.stack.now len (sym same ∙ c.if-eq.true)
 
-pub returns : goal.returns
-returns c =
+pub returns-else-eq : goal.returns-else-eq
+unfolding same_origin
+returns-else-eq c =
     let a = c.args in
-    let len : length a.stack.below ≡ 7 = search (rules, length-mapped) in
-    c.has_posted.ensures ∙ served_above a.origin a.stack len (sym c.same_origin.ensures ∙ c.if-same_origin.false)
+    let len : length a.stack.now.below ≡ 7 = search (rules, length-mapped) in
+    let same : c.eq.result ≡ same_origin a.origin (External a.stack.now.external) = search rules in
+    c.has_posted.ensures ∙ served_above a.origin a.stack.now len (sym same ∙ c.if-eq.false)

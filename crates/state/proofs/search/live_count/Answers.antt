@@ -1,33 +1,26 @@
--- `state::search::live_count` meets its contract. The loop's invariant: what was found and what is left make the whole.
-use borrow.Author.Rules.{rules}
+-- `state::search::live_count` meets its contract. The loop's invariant: what was found and the tops to come, with those below them, make the whole.
 use native.Mathlib.Omega.{arith}
-use Prim.Native.Nat.{ℕ, ◌≤◌}
 use mathlib.Core.Path.{◌≡◌, ap, ◌∙◌}
-use lib.ListN.{length, take, drop, length-take, drop_of_length-le}
-use Rattle.lists.proofs.ArrayLaws.{length-mapped}
+use lib.ListN.{drop, drop_of_length-le}
 use Rattle.model.specs.Live.{live}
+use Rattle.state.specs.View.{no_stack}
 use Rattle.state.proofs.SearchSteps.{live_more}
 use Rattle.state.proofs.search.live_count.Invariants.{live_of}
 use Rattle.state.proofs.search.live_count.Goals as goal
 
-pub loop-i-init : goal.loop-i-init
-loop-i-init c = (omega arith, omega arith, omega arith)
+pub overflow_add-found : goal.overflow_add-found
+overflow_add-found c = omega (arith, c.standing-stacks.ensures.len, c.loop-stack.invariant.0)
 
-pub loop-i-preserved : goal.loop-i-preserved
-loop-i-preserved c =
-    let a = c.args in
-    let n = c.in_use-n.result in
-    let size = c.in_use-n.ensures in
-    let len : length a.stacks ≡ 8 = search (rules, length-mapped) in
-    let deep = c.depth_of.ensures in
-    let more = live_more a.stacks n c.loop-i.i _ _ (omega arith) (omega arith) deep in
-    (omega arith, omega arith, omega (arith, c.loop-i.invariant.2, more, deep))
+pub loop-stack-preserved : goal.loop-stack-preserved
+loop-stack-preserved c =
+    let stacks = c.standing-stacks.result.now in
+    let more = live_more stacks c.loop-stack.stack-index c.min-found.result no_stack c.loop-stack-test.true c.min-found.ensures in
+    (omega (arith, c.loop-stack.invariant.0, c.min-found.ensures), omega (arith, c.loop-stack.invariant.1, more))
 
 pub returns : goal.returns
 unfolding live
 returns c =
-    let a = c.args in
-    let n = c.in_use-n.result in
-    let past : length (take n a.stacks) ≤ c.loop-i.i = simp length-take (omega arith) in
-    let none : live_of (drop c.loop-i.i (take n a.stacks)) ≡ 0 = ap live_of (drop_of_length-le (take n a.stacks) past) in
-    omega (arith, c.loop-i.invariant.2, none) ∙ ap (λ (m : ℕ). live_of (take m a.stacks)) c.in_use-n.ensures
+    let stacks = c.standing-stacks.result.now in
+    let none : live_of (drop c.loop-stack.stack-index stacks) ≡ 0 = ap live_of (drop_of_length-le stacks c.loop-stack-test.false) in
+    let found : c.loop-stack.found ≡ live_of stacks = omega (arith, c.loop-stack.invariant.1, none) in
+    found ∙ ap live_of c.standing-stacks.ensures.value

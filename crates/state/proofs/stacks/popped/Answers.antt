@@ -1,10 +1,11 @@
 -- `state::stacks::popped` meets its contract: one instance less below the top, if there is one.
 use native.Mathlib.Omega.{arith}
-use Rattle.state.proofs.StackSteps.{pop_is}
+use Prim.Native.Nat.{◌-◌}
+use mathlib.Core.Path.{◌≡◌}
+use Rattle.state.specs.View.{depth_of}
+use Rattle.state.specs.Stacks.{pop}
 use Rattle.state.proofs.stacks.popped.Goals as goal
 
-pub returns-then-n-lt1 : goal.returns-then-n-lt1
-returns-then-n-lt1 c = pop_is c.args.stack c.args.x 0 (omega (arith, c.depth_of-n.ensures))
-
 pub returns : goal.returns
-returns c = pop_is c.args.stack c.args.x _ (omega (arith, c.depth_of-n.ensures))
+unfolding pop
+returns c = let e : c.saturating_sub.result ≡ depth_of c.args.stack - 1 = omega (arith, c.saturating_sub.ensures, c.depth_of.ensures) in rw e

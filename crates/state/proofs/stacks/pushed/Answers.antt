@@ -1,9 +1,12 @@
 -- `state::stacks::pushed` meets its contract: the old top goes below, if there is room.
-use Rattle.state.proofs.StackSteps.{push-full, push-room}
+use borrow.Author.Tests.{lt-ltb, le-ltb}
+use Rattle.state.specs.Stacks.{push}
 use Rattle.state.proofs.stacks.pushed.Goals as goal
 
 pub returns-then-n-ge-MOST_BELOW : goal.returns-then-n-ge-MOST_BELOW
-returns-then-n-ge-MOST_BELOW c = push-full c.args.stack c.args.x c.if-n-ge-MOST_BELOW.true
+unfolding push
+returns-then-n-ge-MOST_BELOW c = rw (le-ltb _ _ c.if-n-ge-MOST_BELOW.true)
 
 pub returns : goal.returns
-returns c = push-room c.args.stack c.args.x c.if-n-ge-MOST_BELOW.false
+unfolding push
+returns c = rw (lt-ltb _ _ c.if-n-ge-MOST_BELOW.false)

@@ -1,11 +1,11 @@
 -- `state::stacks::under_top` meets its contract: the last of the instances below.
-use Prim.Native.Nat.{◌-◌}
 use native.Mathlib.Omega.{arith}
-use Rattle.state.proofs.StackSteps.{under_is}
+use Prim.Native.Nat.{◌-◌}
+use mathlib.Core.Path.{◌≡◌}
+use Rattle.state.specs.View.{depth_of}
+use Rattle.state.specs.Stacks.{under_top}
 use Rattle.state.proofs.stacks.under_top.Goals as goal
 
-pub returns-then-n-lt1 : goal.returns-then-n-lt1
-returns-then-n-lt1 c = under_is c.args.stack 0 (omega (arith, c.depth_of-n.ensures))
-
 pub returns : goal.returns
-returns c = under_is c.args.stack (c.depth_of-n.result - 1) (omega (arith, c.depth_of-n.ensures))
+unfolding under_top
+returns c = let e : c.saturating_sub.result ≡ depth_of c.args.stack - 1 = omega (arith, c.saturating_sub.ensures, c.depth_of.ensures) in rw e

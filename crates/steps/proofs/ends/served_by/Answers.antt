@@ -17,4 +17,4 @@ pub returns : goal.returns
 returns c =
     let a = c.args in
     let above : 0 < depth_of a.stack = omega (arith, c.depth_of.ensures, c.if-depth_of-lt1) in
-    c.goal_of.ensures ∙ ap goal_of c.under_top-poster.ensures ∙ serves_goal a.stack above
+    c.goal_of.ensures ∙ ap goal_of c.under_top.ensures ∙ serves_goal a.stack above

@@ -1,9 +1,13 @@
 -- `steps::report::believed` meets its contract: told events change nothing, the others change one literal.
-use Rattle.steps.proofs.ReportLaws.{told-alters, one_alters}
+use mathlib.Core.Path.{sym, ◌∙◌}
+use Rattle.model.specs.Report.{report_changes}
+use Rattle.trials.proofs.TrialLaws.{untouched-alters}
 use Rattle.steps.proofs.report.believed.Goals as goal
 
-pub returns-then-kind-ge-TOLD : goal.returns-then-kind-ge-TOLD
-returns-then-kind-ge-TOLD c = told-alters c.args.b c.args.kind c.args.l c.unaltered.result c.if-kind-ge-TOLD.true c.unaltered.ensures
+pub returns-then-is_change : goal.returns-then-is_change
+unfolding report_changes
+returns-then-is_change c = rw (sym c.is_change.ensures ∙ c.if-is_change.true, ← c.change_of.ensures) c.one_change.ensures
 
 pub returns : goal.returns
-returns c = one_alters c.args.b c.args.kind c.args.l c.one_change.result c.if-kind-ge-TOLD.false c.change_of-c.result c.change_of-c.ensures c.one_change.ensures
+unfolding report_changes
+returns c = rw (sym c.is_change.ensures ∙ c.if-is_change.false) (untouched-alters c.args.b _ c.unaltered.ensures)

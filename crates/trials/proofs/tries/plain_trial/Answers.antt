@@ -5,4 +5,4 @@ use Rattle.trials.proofs.tries.plain_trial.Goals as goal
 pub returns : goal.returns
 returns c =
     let a = c.args in
-    plain_tries a.b a.env a.outcome c.unaltered-altered.result c.unaltered-altered.ensures
+    plain_tries a.b a.env a.outcome c.unaltered.result c.unaltered.ensures

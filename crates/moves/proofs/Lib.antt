@@ -1,2 +1,0 @@
-pub mod MoveLaws
-pub mod PlaceLaws
