@@ -29,7 +29,7 @@ fn run(bytes: &[u8], n: u32) -> usize {
     size
 }
 
-fn saves(agent: Agent, out: &mut [u8], n: u32) -> usize {
+fn saves(agent: &Agent, out: &mut [u8], n: u32) -> usize {
     let mut size: usize = 0;
     for _ in 0..n {
         size = image::save::save(agent, out).unwrap_or(0);
@@ -42,7 +42,7 @@ fn made(kind: u8, bytes: &[u8], out: &mut [u8]) -> usize {
         return run(bytes, 10000);
     }
     match image::restore::restore(bytes) {
-        Ok(agent) => saves(agent, out, 10000),
+        Ok(agent) => saves(&agent, out, 10000),
         Err(_) => 0,
     }
 }

@@ -5,9 +5,9 @@ use mathlib.Core.Bool.{Bool, true, false, cond}
 use mathlib.Core.List.{List, []}
 use native.Mathlib.Nat.{add-zero, zero-add, add-sub_cancel_left}
 use native.Mathlib.Omega.{arith}
-use borrow.Author.Tests.{leb-true, ltb-true, eqb-true, eqb-false, eq-eqb, ne_eqb, le-leb}
+use borrow.Author.Tests.{ltb-true, eqb-true, eqb-false, eq-eqb, ne_eqb, le-leb}
 use lib.ListN.{length, get_or, take, drop}
-use lib.Dec.{leb, ltb, eqb}
+use lib.Dec.{ltb, eqb}
 use Rattle.std.specs.List.{list_all}
 use Rattle.lists.specs.Search.{distinct}
 use Rattle.lists.proofs.BoolLaws.{and_parts, both_ways}
@@ -18,6 +18,7 @@ use Rattle.literal.proofs.LiteralLaws.{equal_same}
 use Rattle.library.specs.declared.Branch.{Branch}
 use Rattle.library.specs.Plan.{no_literal, no_branch}
 use Rattle.library.specs.Bytes.{u16_at, items}
+use Rattle.accepted.proofs.StageLaws.{contents_small}
 use Rattle.library.specs.Layout.{plan_count, belief_count, plans_off, entry_off, entry_length, beliefs_of, plan_at, plan_of, plan_end, library_of}
 use Rattle.accepted.specs.Rules.{branch_ok, plan_ok, beliefs_ok, library_ok}
 use Rattle.accepted.specs.Refusal.{contents_fit, packed_from, is_packed, plan_fits_at, plan_fits, plans_fit, refusal_of, Accepted, part_refusal_of, part_of}
@@ -63,12 +64,7 @@ module _ (bytes : List ℕ) (accepted : Accepted bytes) where
   passed = stages (contents_fit bytes) (is_packed bytes) (beliefs_ok (beliefs_of bytes)) (plans_fit bytes) accepted
 
   pub contents : (plan_count bytes ≤ 32) × (belief_count bytes ≤ 64)
-  unfolding contents_fit
-  contents =
-      let header = and_parts (leb 4 (length bytes)) _ passed.0 in
-      let plans = and_parts (leb (plan_count bytes) 32) _ header.1 in
-      let beliefs = and_parts (leb (belief_count bytes) 64) _ plans.1 in
-      (leb-true _ _ plans.0, leb-true _ _ beliefs.0)
+  contents = contents_small bytes passed.0
 
   -- ---- Beliefs
 

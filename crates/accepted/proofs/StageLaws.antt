@@ -1,21 +1,34 @@
 -- The steps of the loops that test the stages of a refusal, and each stage's ways.
-use Prim.Native.Nat.{ℕ, zero, suc, ◌+◌, ◌*◌, ◌-◌, ◌<◌, ◌≤◌}
-use mathlib.Core.Path.{◌≡◌, refl, ap, ◌∙◌}
+use Prim.Native.Nat.{ℕ, ◌+◌, ◌*◌, ◌-◌, ◌<◌, ◌≤◌}
+use mathlib.Core.Path.{◌≡◌, refl, sym, ◌∙◌}
 use mathlib.Core.Bool.{Bool, true, false, not, ◌&&◌, ◌||◌}
 use mathlib.Core.List.{List, [], ◌∷◌}
 use native.Mathlib.Omega.{arith}
-use borrow.Author.Tests.{eq-eqb, ne_eqb}
-use lib.ListN.{length}
-use lib.Dec.{eqb}
+use borrow.Author.Tests.{leb-true, eq-eqb, ne_eqb}
+use lib.ListN.{length, take, length-take, get_or}
+use lib.Dec.{leb, eqb}
+use Rattle.lists.proofs.BoolLaws.{and_parts}
 use Rattle.std.specs.List.{range_with_len, list_all, list_any}
 use Rattle.lists.specs.Search.{distinct}
 use Rattle.literal.specs.declared.Literal.{Literal}
 use Rattle.literal.specs.Literal.{is_ground, same, opposed}
-use Rattle.library.specs.Bytes.{literal_at, items}
+use Rattle.library.specs.Plan.{no_literal}
 use Rattle.library.specs.Layout.{plan_count, belief_count, plans_off, entry_off, entry_length, beliefs_of}
+use Rattle.library.proofs.PartLaws.{length-beliefs}
 use Rattle.library.proofs.RowLaws.{left_next, left_none, all_left}
+use Rattle.std.proofs.lemmas.List.{get_or_default, get_or-take, same_lists}
 use Rattle.accepted.specs.Rules.{beliefs_ok}
 use Rattle.accepted.specs.Refusal.{contents_fit, packed_from, is_packed, plan_fits, plans_fit}
+
+-- ---- 1: contents
+
+pub contents_small : (bytes : List ℕ) → contents_fit bytes ≡ true → (plan_count bytes ≤ 32) × (belief_count bytes ≤ 64)
+unfolding contents_fit
+contents_small bytes fit =
+    let header = and_parts (leb 4 (length bytes)) _ fit in
+    let plans = and_parts (leb (plan_count bytes) 32) _ header.1 in
+    let beliefs = and_parts (leb (belief_count bytes) 64) _ plans.1 in
+    (leb-true _ _ plans.0, leb-true _ _ beliefs.0)
 
 -- ---- 2: packing
 
@@ -38,23 +51,6 @@ module _ (bytes : List ℕ) where
   packed-whole plans beliefs p b = rw (all_left plans, p, b)
 
 -- ---- 3: beliefs
-
--- the items differ where each differs from those behind it
-module _ {A : Type 0} (equal : A → A → Bool) (read : ℕ → A) (width : ℕ) where
-  -- whether of m items from an offset on the one at number i differs from those behind it
-  abbrev differs : ℕ → ℕ → ℕ → Bool
-  differs m at i = not (list_any (equal (read (at + width * i))) (items read width (m - 1 - i) (at + width * i + width)))
-
-  distinct_from : (m at n a : ℕ) → m ≡ a + n → list_all (differs m at) (range_with_len a n) ≡ distinct equal (items read width n (at + width * a))
-  unfolding distinct items
-  distinct_from m at zero a e = refl
-  distinct_from m at (suc n) a e =
-      let behind : m - 1 - a ≡ n = omega arith in
-      let next : at + width * a + width ≡ at + width * (a + 1) = omega arith in
-      rw (behind, next) (ap (λ (b : Bool). not (list_any (equal (read (at + width * a))) (items read width n (at + width * (a + 1)))) && b) (distinct_from m at n (a + 1) (omega arith)))
-
-  pub distinct_items : (n at : ℕ) → list_all (differs n at) (range_with_len 0 n) ≡ distinct equal (items read width n at)
-  distinct_items n at = distinct_from n at n 0 (omega arith) ∙ ap (λ (first : ℕ). distinct equal (items read width n first)) (omega arith)
 
 -- no element equals a later one by either of two tests
 module _ {A : Type 0} (f g : A → A → Bool) where
@@ -87,15 +83,26 @@ module _ {A : Type 0} (f g : A → A → Bool) where
 abbrev pub alike : Literal → Literal → Bool
 alike l m = same l m || opposed l m
 
-module _ (bytes : List ℕ) (plans beliefs : ℕ) (p : plans ≡ plan_count bytes) (b : beliefs ≡ belief_count bytes) where
-  pub ground_fails : list_all is_ground (items (literal_at bytes) 8 beliefs (4 + 4 * plans)) ≡ false → false ≡ beliefs_ok (beliefs_of bytes)
-  unfolding beliefs_ok beliefs_of
-  ground_fails h = rw (← p, ← b, h)
+module _ (bytes : List ℕ) where
+  -- items that are the belief of their number, up to the number of beliefs
+  pub beliefs_made : (items : List Literal) (n : ℕ) → length items ≡ 64
+      → ((i : ℕ) (d : Literal) → i < 64 → get_or items i d ≡ get_or (beliefs_of bytes) i no_literal)
+      → n ≡ belief_count bytes → n ≤ 64 → take n items ≡ beliefs_of bytes
+  beliefs_made items n size each e few =
+      let count : n ≡ length (beliefs_of bytes) = e ∙ sym (length-beliefs bytes) in
+      let held : length (take n items) ≡ length (beliefs_of bytes) = simp length-take (omega arith) in
+      same_lists (take n items) (beliefs_of bytes) held (λ i d h.
+      let inside : i < n = omega arith in
+      get_or-take n items i d inside ∙ each i d (omega arith) ∙ get_or_default (beliefs_of bytes) i no_literal d (omega arith))
 
-  module _ (ground : list_all is_ground (items (literal_at bytes) 8 beliefs (4 + 4 * plans)) ≡ true) where
-    pub apart_decides : distinct alike (items (literal_at bytes) 8 beliefs (4 + 4 * plans)) ≡ beliefs_ok (beliefs_of bytes)
-    unfolding beliefs_ok beliefs_of
-    apart_decides = distinct-either same opposed _ ∙ rw (← p, ← b, ground)
+module _ (beliefs : List Literal) where
+  pub ground_fails : list_all is_ground beliefs ≡ false → false ≡ beliefs_ok beliefs
+  unfolding beliefs_ok
+  ground_fails h = rw h
+
+  pub apart_decides : list_all is_ground beliefs ≡ true → distinct alike beliefs ≡ beliefs_ok beliefs
+  unfolding beliefs_ok
+  apart_decides h = distinct-either same opposed beliefs ∙ rw h
 
 -- ---- 4: plans
 

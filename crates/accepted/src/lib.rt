@@ -6,7 +6,8 @@ ghost use Rattle.refusals.specs.Numbers.{number_in};
 ghost use Rattle.accepted.specs.Refusal.{refusal_of, part_refusal_of, part_of};
 
 use self::stages::{beliefs_ok, contents_fit, is_packed, plans_fit};
-use library::contents::{entry_length, entry_offset, plan_count};
+use library::contents::plan_count;
+use library::plan::PlanRef;
 use refusals::Refusal;
 
 mod rules; // rules.rt: the rules for a plan
@@ -32,7 +33,7 @@ pub fn refusal(library: &[u8]) -> Result<(), Refusal>
     Ok(())
 }
 
-// The library's refusal, then that it has no such plan.
+// The library's refusal, then that it has no such plan. Here and below a plan is asked for by library and number, document 01's form.
 #[tactic(auto, unfolding(crate::specs::Refusal::part_refusal_of))]
 pub fn plan_refusal(library: &[u8], plan: usize) -> Result<(), Refusal>
     ensures { number_in result ≡ part_refusal_of library.now plan }
@@ -62,7 +63,10 @@ pub fn plan_part(library: &[u8], plan: usize) -> &[u8]
     let Ok(()) = plan_refusal(library, plan) else {
         return &library[..0];
     };
-    let offset = entry_offset(library, plan) as usize;
-    let end = offset + entry_length(library, plan) as usize;
-    &library[offset..end]
+    let part = PlanRef {
+        library,
+        number: plan,
+    };
+    let offset = part.offset();
+    &library[offset..offset + part.length()]
 }

@@ -4,7 +4,7 @@ use native.Mathlib.Omega.{arith}
 use mathlib.Core.Path.{◌≡◌, refl, ap, sym, ◌∙◌}
 use mathlib.Core.Bool.{true, false}
 use Rattle.std.specs.Prelude.{Option, None, Some}
-use mathlib.Core.List.{List, map}
+use mathlib.Core.List.{List}
 use lib.ListN.{length, length-map}
 use lib.Seq.{get_or-take}
 use Rattle.std.specs.List as std
@@ -25,7 +25,6 @@ use Rattle.model.specs.Turn.{Move, fails, succeeds, tries, next_move, turn_by, t
 use Rattle.model.specs.Event.{take_up}
 use Rattle.model.specs.Cycle.{next_event, next_stack, choice_for, cycle_by, cycled}
 use Rattle.model.specs.Calls.{is_refusal}
-use Rattle.state.specs.declared.Stack.{Stack}
 use Rattle.state.specs.declared.State.{State}
 use Rattle.state.specs.View.{no_stack, view_stack, queued_of, stacked_of, view_queue, view_stacks, view_state, counts_fit}
 use Rattle.state.proofs.ViewLaws.{length_queue, length-stacks, stack_at_lem}
@@ -57,12 +56,10 @@ turn-answers library s k = turn_by-answers library s k (next_move library s.beli
 
 -- ---- The event that the search found, or that there is none
 
-module _ (s : State) (queue_size : length s.queue ≡ 88) (events : List Event) (e : events ≡ view_queue s) (ks : List Stack) (k : ks ≡ standing s)
-    (found : Option ℕ) (f : found ≡ std.position (is_ready (live (map view_stack ks)) (length ks)) events) where
+module _ (s : State) (queue_size : length s.queue ≡ 88) (found : Option ℕ)
+    (f : found ≡ std.position (is_ready (live (view_stacks s)) (length (standing s))) (view_queue s)) where
   seen : found ≡ std.position (is_ready (live (view_stacks s)) (length (view_stacks s))) (view_queue s)
-  seen =
-      f ∙ (λ i. std.position (is_ready (live (map view_stack (k i))) (length (k i))) (e i))
-      ∙ ap (λ (n : ℕ). std.position (is_ready (live (view_stacks s)) n) (view_queue s)) (sym (length-map (standing s) view_stack))
+  seen = f ∙ ap (λ (n : ℕ). std.position (is_ready (live (view_stacks s)) n) (view_queue s)) (sym (length-map (standing s) view_stack))
 
   pub event_found : (place : ℕ) → found ≡ Some place
       → (place ≡ position (is_ready (live (view_stacks s)) (length (view_stacks s))) (view_queue s)) × (place < queued_of s)

@@ -34,7 +34,7 @@ use Rattle.steps.specs.End.{end_move}
 use Rattle.steps.specs.Step.{applied}
 use Rattle.steps.specs.Gives.{Replies}
 use Rattle.steps.proofs.GivesLaws.{replies_as}
-use Rattle.agent.specs.Turnable.{placed, poster_after, end_answer, succeeds, end_by, Runnable, Ended, Ends}
+use Rattle.agent.specs.Turnable.{placed, poster_after, end_answer, end_by, Runnable, Ended, Ends}
 use Rattle.agent.proofs.TurnLaws.{Requeues, close_requeues, mark_requeues, ended-after}
 
 module _ (bytes : List ℕ) (b : Beliefs) (place : ℕ) (stack : Stack) (pre : Runnable bytes b stack) (altered : Altered) (t : Step) where
@@ -57,7 +57,7 @@ module _ (bytes : List ℕ) (b : Beliefs) (place : ℕ) (stack : Stack) (pre : R
   pub end_replies : (ending : Ending)
       → Alters b (effects (view b) stack.top.env (take 4 (list_of ending (layout.plan_of bytes stack.top.plan)))) altered
       → Ended place (popped stack.external (poster_after ending (library_of bytes)) (view_stack stack).below)
-      (end_answer ending stack.top.id) altered (end_move (succeeds ending) (view_stack stack)) t
+      (end_answer ending stack.top.id) altered (end_move ending (view_stack stack)) t
       → Ends b place (λ s. end_by ending (library_of bytes) s (placed place stack)) t
   unfolding succeed fail
   end_replies Success alters goes = λ s e stands.

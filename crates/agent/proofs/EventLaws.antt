@@ -24,7 +24,7 @@ use Rattle.model.specs.declared.Event.{Event}
 use Rattle.model.specs.declared.Instance.{Instance}
 use Rattle.model.specs.declared.Origin.{Origin}
 use Rattle.model.specs.declared.Origin.TheVariants.{External, Goal}
-use Rattle.model.specs.State.{Intention, AgentState, reply, requeued, restacked}
+use Rattle.model.specs.State.{Intention, AgentState, requeued, restacked}
 use Rattle.model.specs.Instance.{awake}
 use Rattle.model.specs.Live.{is_poster}
 use Rattle.model.specs.Event.{new_instance, pushed, make, woken, close}
@@ -126,39 +126,38 @@ module _ (s : State) (sized : Sized s) (fits : counts_fit s ≡ true) where
       step_replies s (opened_step s.beliefs (new_instance s.made chosen) external) (restacked (view_state s) (view_stacks s ++ (view_stack stack ∷ [])))
       (open_state s stack sized.stacks room) (counts_open s fits sized.stacks stack (omega arith)) few
 
-  made_goal : (chosen : Chosen) (i state branch poster : ℕ) (next : Stack) → HasPoster (standing s) (Goal i state branch)
-      → poster ≡ poster_in (standing s) (Goal i state branch)
-      → view_stack next ≡ pushed (new_instance s.made chosen) (view_stack (stack_at s poster)) → next.depth ≤ 7
-      → Replies (make (view_state s) chosen (Goal i state branch))
-      (applied s (plain_step s.beliefs (MadeGoal (s.made + 1) chosen.plan i) queue.Keep (stacks.Replace poster) next (numbering.Made (s.made + 1))))
+  made_goal : (chosen : Chosen) (i state branch poster : ℕ) (t : Step) → HasPoster (standing s) (Goal i state branch)
+      → poster ≡ poster_in (standing s) (Goal i state branch) → Pushes s.beliefs (new_instance s.made chosen) i poster (stack_at s poster) t
+      → Replies (make (view_state s) chosen (Goal i state branch)) (applied s t)
   unfolding make
-  made_goal chosen i state branch poster next h found top deep =
+  made_goal chosen i state branch poster t h found pushes =
       let x = new_instance s.made chosen in
       let test = is_poster (Goal i state branch) in
       let low = poster_low s sized (Goal i state branch) poster h found in
-      step_replies s (plain_step s.beliefs (MadeGoal (s.made + 1) chosen.plan i) queue.Keep (stacks.Replace poster) next (numbering.Made (s.made + 1)))
+      let u = plain_step s.beliefs (MadeGoal x.id x.plan i) queue.Keep (stacks.Replace poster) t.stack (numbering.Made x.id) in
+      subst⁻¹ (λ (y : Step). Replies (make (view_state s) chosen (Goal i state branch)) (applied s y)) pushes.step
+      (step_replies s u
       (restacked (view_state s) (change_at (pushed x) (view_stacks s) (first test (view_stacks s))))
-      (put_frame s poster next ∙ ap (restacked (view_state s)) (put_change s poster no_stack low test (pushed x) next sized.stacks found top))
-      (counts-put s fits sized.stacks poster next deep) few
+      (put_frame s poster t.stack ∙ ap (restacked (view_state s)) (put_change s poster no_stack low test (pushed x) t.stack sized.stacks found pushes.higher))
+      (counts-put s fits sized.stacks poster t.stack pushes.depth) few)
 
   -- ---- Closed
 
-  dropped : (place : ℕ) (event : Event) (external failures : ℕ) (stack : Stack) → failures ≡ size_of event.failed
-      → Replies (close (view_state s) (record { place = place; it = event }) (External external))
-      (applied s (plain_step s.beliefs (Dropped external failures) (queue.Remove place) stacks.Keep stack numbering.Keep))
+  dropped : (place : ℕ) (event : Event) (external : ℕ) (t : Step) → Drops s.beliefs place external (size_of event.failed) t
+      → Replies (close (view_state s) (record { place = place; it = event }) (External external)) (applied s t)
   unfolding close replay
-  dropped place event external failures stack size =
+  dropped place event external t e =
       let v = requeued (view_state s) (remove_at place (view_queue s)) in
-      let t = plain_step s.beliefs (Dropped external failures) (queue.Remove place) stacks.Keep stack numbering.Keep in
-      subst (λ (n : ℕ). Replies (reply (Dropped external n) [] v) (applied s t)) size
-      (step_replies s t v (dequeue-state s place sized.queue) (counts-dequeue s fits place) few)
+      let u = plain_step s.beliefs (Dropped external (size_of event.failed)) (queue.Remove place) stacks.Keep t.stack numbering.Keep in
+      subst⁻¹ (λ (x : Step). Replies (close (view_state s) (record { place = place; it = event }) (External external)) (applied s x)) e
+      (step_replies s u v (dequeue-state s place sized.queue) (counts-dequeue s fits place) few)
 
-  unmet : (place : ℕ) (event : Event) (failures i state branch poster : ℕ) (stack : Stack) → failures ≡ size_of event.failed
+  unmet : (place : ℕ) (event : Event) (i state branch poster : ℕ) (stack : Stack)
       → HasPoster (standing s) (Goal i state branch) → poster ≡ poster_in (standing s) (Goal i state branch) → stack ≡ stack_at s poster
       → Replies (close (view_state s) (record { place = place; it = event }) (Goal i state branch))
-      (applied s (unmet_step s.beliefs place (Unmet i state branch failures) poster stack))
+      (applied s (unmet_step s.beliefs place (Unmet i state branch (size_of event.failed)) poster stack))
   unfolding close replay
-  unmet place event failures i state branch poster stack size h found there =
+  unmet place event i state branch poster stack h found there =
       let test = is_poster (Goal i state branch) in
       let low = poster_low s sized (Goal i state branch) poster h found in
       let room : stack.depth < 7 = subst⁻¹ (λ (k : Stack). k.depth < 7) there (poster-room s sized (Goal i state branch) poster h found) in
@@ -175,10 +174,8 @@ module _ (s : State) (sized : Sized s) (fits : counts_fit s ≡ true) where
       ∙ ap (restacked (view_state w)) (put_change w poster no_stack low test woken next sized.stacks found top)
       ∙ ap (λ (z : State). restacked (view_state z) ks) (sym same)
       ∙ ap (λ (z : AgentState). restacked z ks) (dequeue-state s place sized.queue) in
-      let t = unmet_step s.beliefs place (Unmet i state branch failures) poster stack in
-      subst (λ (n : ℕ). Replies (reply (Unmet i state branch n) [] v) (applied s t)) size
-      (step_replies s t v shown
-      (counts-put u (counts-dequeue s fits place) (sized_dequeue s sized place).stacks poster next (omega (arith, room))) few)
+      step_replies s (unmet_step s.beliefs place (Unmet i state branch (size_of event.failed)) poster stack) v shown
+      (counts-put u (counts-dequeue s fits place) (sized_dequeue s sized place).stacks poster next (omega (arith, room))) few
 
 -- ---- The same, from the parts that the step was decided from
 
@@ -190,12 +187,10 @@ module _ (beliefs : Beliefs) (stacks : List Stack) (t : Step) where
       let few : s.stacked < 8 = omega (arith, p.0, length_standing s h.sized) in
       subst⁻¹ (λ (u : Step). Replies (make (view_state s) chosen (External external)) (applied s u)) p.1 (made_external s h.sized h.fit chosen external few)
 
-  pub closed_by_dropping : (place : ℕ) (event : Event) (external failures : ℕ) → failures ≡ size_of event.failed → Drops beliefs place external failures t
+  pub closed_by_dropping : (place : ℕ) (event : Event) (external : ℕ) → Drops beliefs place external (size_of event.failed) t
       → Closes beliefs stacks (λ s. close s (record { place = place; it = event }) (External external)) t
-  closed_by_dropping place event external failures size e s h =
-      let p = of_state (λ b m ks. Drops b place external failures t) s h e in
-      subst⁻¹ (λ (u : Step). Replies (close (view_state s) (record { place = place; it = event }) (External external)) (applied s u)) p
-      (dropped s h.sized h.fit place event external failures t.stack size)
+  closed_by_dropping place event external e s h =
+      dropped s h.sized h.fit place event external t (of_state (λ b m ks. Drops b place external (size_of event.failed) t) s h e)
 
   module _ (i state branch poster : ℕ) (has : HasPoster stacks (Goal i state branch)) (found : poster ≡ poster_in stacks (Goal i state branch)) where
     -- the poster's stack in a state
@@ -206,15 +201,15 @@ module _ (beliefs : Beliefs) (stacks : List Stack) (t : Step) where
         → Makes beliefs made stacks (λ s. make s chosen (Goal i state branch)) t
     made_by_pushing made chosen e s h =
         let p = of_state (λ b m ks. Posted ks × Pushes b (new_instance m chosen) i poster (get_or ks poster no_stack) t) s h ((has, found), e) in
-        let pushes = subst (λ (k : Stack). Pushes s.beliefs (new_instance s.made chosen) i poster k t) (poster_is s h.sized (Goal i state branch) poster p.0.0 p.0.1) p.1 in
-        subst⁻¹ (λ (u : Step). Replies (make (view_state s) chosen (Goal i state branch)) (applied s u)) pushes.step
-        (made_goal s h.sized h.fit chosen i state branch poster t.stack p.0.0 p.0.1 pushes.higher pushes.depth)
+        let there = poster_is s h.sized (Goal i state branch) poster p.0.0 p.0.1 in
+        made_goal s h.sized h.fit chosen i state branch poster t p.0.0 p.0.1
+        (subst (λ (k : Stack). Pushes s.beliefs (new_instance s.made chosen) i poster k t) there p.1)
 
-    pub closed_by_waking : (place : ℕ) (event : Event) (failures : ℕ) → failures ≡ size_of event.failed
-        → t ≡ unmet_step beliefs place (Unmet i state branch failures) poster (get_or stacks poster no_stack)
+    pub closed_by_waking : (place : ℕ) (event : Event)
+        → t ≡ unmet_step beliefs place (Unmet i state branch (size_of event.failed)) poster (get_or stacks poster no_stack)
         → Closes beliefs stacks (λ s. close s (record { place = place; it = event }) (Goal i state branch)) t
-    closed_by_waking place event failures size e s h =
-        let p = of_state (λ b m ks. Posted ks × (t ≡ unmet_step b place (Unmet i state branch failures) poster (get_or ks poster no_stack))) s h ((has, found), e) in
+    closed_by_waking place event e s h =
+        let p = of_state (λ b m ks. Posted ks × (t ≡ unmet_step b place (Unmet i state branch (size_of event.failed)) poster (get_or ks poster no_stack))) s h ((has, found), e) in
         subst⁻¹ (λ (u : Step). Replies (close (view_state s) (record { place = place; it = event }) (Goal i state branch)) (applied s u)) p.1
-        (unmet s h.sized h.fit place event failures i state branch poster (get_or (standing s) poster no_stack) size p.0.0 p.0.1
+        (unmet s h.sized h.fit place event i state branch poster (get_or (standing s) poster no_stack) p.0.0 p.0.1
         (poster_is s h.sized (Goal i state branch) poster p.0.0 p.0.1))

@@ -1,7 +1,7 @@
 -- Lines run one after the other: what each gives, that a well-formed state stays well formed, and that a run is a chain of the agent's calls.
 use Prim.Native.Nat.{ℕ}
 use native.Mathlib.Omega.{arith}
-use mathlib.Core.Path.{◌≡◌, refl, ap, sym, subst, subst⁻¹, ◌∙◌}
+use mathlib.Core.Path.{◌≡◌, refl, ap, sym, subst⁻¹, ◌∙◌}
 use mathlib.Core.Bool.{Bool, true, false}
 use Rattle.std.specs.Prelude.{Option, None, Some}
 use mathlib.Core.List.{List, [], ◌∷◌, ◌++◌}
@@ -85,58 +85,46 @@ module _ (bytes : List ℕ) (s : State) where
 
 -- ---- A run on the agent's state is a journal of the agent
 
-module _ (a : Agent) (bytes : List ℕ) where
+module _ (a : Agent) where
   -- one line more
-  journal_then : (formed : Bool) (t : State) → is_well_formed_agent (in_state a t) ≡ formed → (formed ≡ true → bytes ≡ bytes_of a)
+  journal_then : (formed : Bool) (t : State) → is_well_formed_agent (in_state a t) ≡ formed
       → {calls : List (Option Call)} {text : List ℕ} → Journal a calls text (in_state a t) → (call : Option Call) (r : Acted)
-      → Responds bytes formed t call r → fits (view_result r.result) ≡ true
+      → Responds (bytes_of a) formed t call r → fits (view_result r.result) ≡ true
       → Journal a (calls ++ (call ∷ [])) (text ++ result_text (view_result r.result)) (in_state a r.state)
-  unfolding respond_by call_by
-  journal_then formed t w own {calls} {text} j None r h fit =
+  unfolding respond_by
+  journal_then formed t w {calls} {text} j None r h fit =
       let put : Journal a (calls ++ (None ∷ [])) (text ++ result_text (view_result r.result)) (in_state a t)
-      = subst⁻¹ (λ (x : Result). Journal a (calls ++ (None ∷ [])) (text ++ result_text x) (in_state a t)) (unread_result bytes t formed r h) (unread j) in
-      subst⁻¹ (λ (u : State). Journal a (calls ++ (None ∷ [])) (text ++ result_text (view_result r.result)) (in_state a u)) (unread_state bytes t formed r h) put
-  journal_then formed t w own j (Some c) r h fit =
+      = subst⁻¹ (λ (x : Result). Journal a (calls ++ (None ∷ [])) (text ++ result_text x) (in_state a t)) (unread_result (bytes_of a) t formed r h) (unread j) in
+      subst⁻¹ (λ (u : State). Journal a (calls ++ (None ∷ [])) (text ++ result_text (view_result r.result)) (in_state a u)) (unread_state (bytes_of a) t formed r h) put
+  journal_then formed t w j (Some c) r h fit =
       answered j c (record { agent = in_state a r.state; result = r.result }) (record {
-        means = h.means ∙ library formed own ∙ ap (λ (b : Bool). call_by b (library_of (bytes_of a)) (view_state t) c) (sym w);
+        means = h.means ∙ ap (λ (b : Bool). call_by b (library_of (bytes_of a)) (view_state t) c) (sym w);
         library = refl;
         length = refl;
         refused = λ x. let same = h.refused x in λ i. in_state a (same i);
         fit = λ x. h.fit (sym w ∙ x);
         count = h.count;
       }) fit
-    where
-      library : (b : Bool) → (b ≡ true → bytes ≡ bytes_of a) → respond_by b (library_of bytes) (view_state t) (Some c) ≡ call_by b (library_of (bytes_of a)) (view_state t) c
-      library false own = refl
-      library true own = ap (λ (l : List ℕ). act (library_of l) (view_state t) c) (own refl)
 
-  module _ (own : bytes ≡ bytes_of a) where
-    -- the well-formed test of the agent, from its parts
-    formed_again : is_well_formed_agent a ≡ true → (t : State) → WellFormedState bytes t → is_well_formed_agent (in_state a t) ≡ true
-    formed_again e t w =
-        test_passes a.library a.length t (test_within a.library a.length a.state e)
-        (subst (λ (l : List ℕ). WellFormedState l t) own w)
-
-    -- on a well-formed agent
-    runs_formed : is_well_formed_agent a ≡ true → WellFormedState bytes a.state → {calls : List (Option Call)} {text : List ℕ} {t : State}
-        → Runs bytes true a.state calls text t → Journal a calls text (in_state a t) × WellFormedState bytes t
-    runs_formed e w none_yet = (start, w)
-    runs_formed e w (then {t = t} runs call r h fit) =
-        let i = runs_formed e w runs in
-        (journal_then true t (formed_again e t i.1) (λ x. own) i.0 call r h fit, responds_kept bytes t i.1 call r h)
+  -- on a well-formed agent
+  runs_formed : is_well_formed_agent a ≡ true → {calls : List (Option Call)} {text : List ℕ} {t : State}
+      → Runs (bytes_of a) true a.state calls text t → Journal a calls text (in_state a t) × WellFormedState (bytes_of a) t
+  runs_formed e none_yet = (start, test_parts a.library a.length a.state e)
+  runs_formed e (then {t = t} runs call r h fit) =
+      let i = runs_formed e runs in
+      let w = test_passes a.library a.length t (test_within a.library a.length a.state e) i.1 in
+      (journal_then true t w i.0 call r h fit, responds_kept (bytes_of a) t i.1 call r h)
 
   -- on another every call is refused, and the agent stays as it is
   runs_unformed : is_well_formed_agent a ≡ false → {calls : List (Option Call)} {text : List ℕ} {t : State}
-      → Runs bytes false a.state calls text t → Journal a calls text (in_state a t) × (t ≡ a.state)
+      → Runs (bytes_of a) false a.state calls text t → Journal a calls text (in_state a t) × (t ≡ a.state)
   runs_unformed e none_yet = (start, refl)
   runs_unformed e (then {t = t} runs call r h fit) =
       let i = runs_unformed e runs in
       let w : is_well_formed_agent (in_state a t) ≡ false = ap (λ (u : State). is_well_formed_agent (in_state a u)) i.1 ∙ e in
-      (journal_then false t w (λ x. both_ways x refl) i.0 call r h fit, unformed_state bytes t call r h ∙ i.1)
+      (journal_then false t w i.0 call r h fit, unformed_state (bytes_of a) t call r h ∙ i.1)
 
-  pub runs_journal : (formed : Bool) → formed ≡ is_well_formed_agent a → (formed ≡ true → bytes ≡ bytes_of a)
-      → {calls : List (Option Call)} {text : List ℕ} {t : State} → Runs bytes formed a.state calls text t → Journal a calls text (in_state a t)
-  runs_journal true e own runs =
-      let w = test_parts a.library a.length a.state (sym e) in
-      (runs_formed (own refl) (sym e) (subst⁻¹ (λ (l : List ℕ). WellFormedState l a.state) (own refl) w) runs).0
-  runs_journal false e own runs = (runs_unformed (sym e) runs).0
+  pub runs_journal : (formed : Bool) → formed ≡ is_well_formed_agent a
+      → {calls : List (Option Call)} {text : List ℕ} {t : State} → Runs (bytes_of a) formed a.state calls text t → Journal a calls text (in_state a t)
+  runs_journal true e runs = (runs_formed (sym e) runs).0
+  runs_journal false e runs = (runs_unformed (sym e) runs).0

@@ -1,7 +1,7 @@
 -- What a look at the stacks tells is so: what it answers, and that no event may be taken up where a stack has its turn.
 use Prim.Native.Nat.{ℕ, ◌<◌, ◌≤◌}
 use native.Mathlib.Omega.{arith}
-use mathlib.Core.Path.{◌≡◌, refl, ap, sym, subst, subst⁻¹, ◌∙◌}
+use mathlib.Core.Path.{◌≡◌, refl, ap, sym, subst⁻¹, ◌∙◌}
 use mathlib.Core.Bool.{Bool, true, false}
 use Rattle.std.specs.Prelude.{Option, Some, None}
 use mathlib.Core.List.{List, map}
@@ -19,7 +19,7 @@ use Rattle.model.specs.declared.Answer.TheVariants.{Idle, Refused}
 use Rattle.model.specs.State.{Intention, Call, cycle, outcome}
 use Rattle.model.specs.Live.{live, is_ready}
 use Rattle.model.specs.Outcome.{is_awaiting, told}
-use Rattle.model.specs.Turn.{is_running, turn}
+use Rattle.model.specs.Turn.{is_running}
 use Rattle.model.specs.Calls.{act}
 use Rattle.model.specs.Formed.{WellFormed}
 use Rattle.model.proofs.WellFormedTest.{test_formed}
@@ -30,17 +30,15 @@ use Rattle.state.specs.View.{view_stack, queued_of, stacked_of, view_queue, view
 use Rattle.state.specs.Search.{is_asleep}
 use Rattle.state.proofs.ViewLaws.{length_queue, length-stacks}
 use Rattle.state.proofs.CountParts.{counts-parts}
-use Rattle.agent.specs.declared.look.Look.{Look}
-use Rattle.agent.specs.declared.look.Look.TheVariants as look
 use Rattle.steps.specs.declared.step.Step.{Step}
 use Rattle.steps.specs.View.{Sized, plainly, stack_at}
-use Rattle.steps.specs.Gives.{Replies, Gives}
-use Rattle.agent.specs.Turnable.{placed, Runnable, Turnable, Turns}
+use Rattle.steps.specs.Gives.{Gives}
+use Rattle.agent.specs.Turnable.{Runnable, Turns}
 use Rattle.steps.specs.Outcome.{told_step, Awaits}
 use Rattle.steps.specs.Step.{applied}
 use Rattle.formed.specs.Formed.{WellFormedState}
 use Rattle.agent.specs.Feed.{Trusted, Responds}
-use Rattle.agent.specs.Look.{may_take_up, Answers, unformed, unread, idle, unawaited, Looks, Looked, place_of}
+use Rattle.agent.specs.Look.{may_take_up, Answers, unformed, unread, idle, unawaited}
 use Rattle.agent.proofs.CycleLaws.{cycled-turn, cycled_idle}
 use Rattle.steps.proofs.OutcomeLaws.{told_gives, told-refused}
 use Rattle.agent.proofs.FormedFacts.{runnable, turnable}
@@ -98,29 +96,27 @@ module _ (bytes : List ℕ) (s : State) (sized : Sized s) where
 
     -- ---- What moves the state
 
-    module _ (place : ℕ) (stack : Stack) (is : stack ≡ stack_at s place) (low : place < s.stacked) where
-      pub turn_runnable : Runnable bytes s.beliefs stack
-      turn_runnable = subst⁻¹ (Runnable bytes s.beliefs) is (runnable bytes s w.fit w.formed sized w.accepted place (omega (arith, within, low)))
+    module _ (place : ℕ) (low : place < s.stacked) where
+      pub turn_runnable : Runnable bytes s.beliefs (stack_at s place)
+      turn_runnable = runnable bytes s w.fit w.formed sized w.accepted place (omega (arith, within, low))
 
       pub turn_responds : may_take_up s ≡ false → place ≡ position is_running (view_stacks s)
-          → (t : Step) → Turns bytes s.beliefs place stack t → Responds bytes true s (Some cycle) (applied s t)
+          → (t : Step) → Turns bytes s.beliefs place (stack_at s place) t → Responds bytes true s (Some cycle) (applied s t)
       unfolding act
       turn_responds e f t turns =
           let there : place < stacked_of s = omega (arith, within, low) in
           let can = turnable bytes s w.fit w.formed sized w.accepted place there f in
-          let own = subst (λ (k : Stack). Replies (turn (library_of bytes) (view_state s) (placed place k)) (applied s t)) is
-          (turns s (subst⁻¹ (Turnable bytes s s.beliefs place) is can)) in
-          responds_act bytes s cycle (applied s t) (cycled-turn bytes s sized.queue sized.stacks next refl (none_taken e) place f there (applied s t) own)
+          responds_act bytes s cycle (applied s t) (cycled-turn bytes s sized.queue sized.stacks next refl (none_taken e) place f there (applied s t) (turns s can))
 
       pub tell_responds : (id : ℕ) (worked : Bool) → place ≡ position (is_awaiting id) (view_stacks s)
-          → (t : Step) → t ≡ told_step (library_of bytes) s.beliefs place stack worked → Responds bytes true s (Some (outcome id worked)) (applied s t)
+          → (t : Step) → t ≡ told_step (library_of bytes) s.beliefs place (stack_at s place) worked → Responds bytes true s (Some (outcome id worked)) (applied s t)
       unfolding act
       tell_responds id worked f t e =
-          let awaits : Awaits s s.beliefs id place stack =
-          record { sized = sized; fit = w.fit; beliefs_are = refl; found = f; there = omega (arith, within, low); stack_is = sym is } in
+          let awaits : Awaits s s.beliefs id place (stack_at s place) =
+          record { sized = sized; fit = w.fit; beliefs_are = refl; found = f; there = omega (arith, within, low); stack_is = refl } in
           responds_act bytes s (outcome id worked) (applied s t)
           (subst⁻¹ (λ (u : Step). Gives s (told (library_of bytes) (view_state s) id worked) (applied s u)) e
-          (told_gives (library_of bytes) s s.beliefs id place stack awaits worked))
+          (told_gives (library_of bytes) s s.beliefs id place (stack_at s place) awaits worked))
 
   -- ---- What leaves it as it is
 
@@ -137,21 +133,3 @@ module _ (bytes : List ℕ) (s : State) (sized : Sized s) where
       let w = trusted e in
       responds_as bytes s e (Some (outcome id worked)) (plainly s (Refused 8)) (responds_act bytes s (outcome id worked) (plainly s (Refused 8))
       (told-refused (library_of bytes) s id worked (position (is_awaiting id) (view_stacks s)) refl sized w.fit (omega (arith, within w)) (plainly s (Refused 8)) refl))
-
--- of a state, whatever the library
-pub looked : (s : State) → Sized s → (formed : Bool) (call : Option Call) (found : Look)
-    → Looks formed s call found → Looked formed s call found
-looked s sized formed call (look.Answered answer) h = λ bytes trusted. answers-respond bytes s sized formed trusted h
-looked s sized formed call (look.Reports kind l) h = h
-looked s sized formed call look.Searches h = h
-looked s sized formed call (look.Turns place) h = h
-looked s sized formed call (look.Tells place worked) h = h
-
--- the stack that is told of is one of the eight
-pub place_low : (bytes : List ℕ) (s : State) (formed : Bool) (call : Option Call) (found : Look) → Trusted formed bytes s → Looked formed s call found
-    → place_of found < 8
-place_low bytes s formed call (look.Answered answer) trusted h = omega arith
-place_low bytes s formed call (look.Reports kind l) trusted h = omega arith
-place_low bytes s formed call look.Searches trusted h = omega arith
-place_low bytes s formed call (look.Turns place) trusted h = omega (arith, h.4, (counts-parts s (trusted h.0).fit).stacked)
-place_low bytes s formed call (look.Tells place worked) trusted h = omega (arith, h.1.3, (counts-parts s (trusted h.0).fit).stacked)

@@ -1,7 +1,7 @@
 -- A chunk's lines, one after the other: each line that ends is run and printed behind the others, and what does not end goes on after the chunk.
-use Prim.Native.Nat.{ℕ, ◌+◌, ◌≤◌}
+use Prim.Native.Nat.{ℕ, ◌+◌, ◌<◌, ◌≤◌}
 use native.Mathlib.Omega.{arith}
-use mathlib.Core.Path.{◌≡◌, refl, ap, sym, subst⁻¹, ◌∙◌}
+use mathlib.Core.Path.{◌≡◌, refl, ap, sym, subst, subst⁻¹, ◌∙◌}
 use mathlib.Core.Bool.{Bool, true}
 use Rattle.std.specs.Prelude.{Option, None, Some}
 use mathlib.Core.List.{List, [], ◌∷◌, ◌++◌, append_assoc}
@@ -19,7 +19,11 @@ use Rattle.stream.specs.Carried.{begun, more}
 use Rattle.stream.specs.Calls.{calls_from, line_after, next_line, shown}
 use Rattle.stream.proofs.ChunkLaws.{line_ends, line_goes_on, line_after_lem, used_after}
 use Rattle.steps.specs.declared.Acted.{Acted}
-use Rattle.agent.specs.Feed.{Responds, none_yet, then, silent, roomy, Progress}
+use Rattle.load.specs.declared.Agent.{Agent}
+use Rattle.load.specs.Load.{bytes_of, is_well_formed_agent}
+use Rattle.agent.specs.declared.feed.Fed.{Fed}
+use Rattle.agent.specs.Feed.{Responds, none_yet, then, in_state, Journal, silent, roomy, Between, Progress, Feeds}
+use Rattle.agent.proofs.FeedLaws.{runs_journal}
 
 module _ (bytes : List ℕ) (formed : Bool) (s : State) (carry : Carry) (chunk before : List ℕ) where
   -- nothing is read yet
@@ -66,8 +70,24 @@ module _ (bytes : List ℕ) (formed : Bool) (s : State) (carry : Carry) (chunk b
 pub written_within : (at : ℕ) {next before after : ℕ} → next ≤ at + most_line → at + most_line ≤ before → after ≡ before → next ≤ after
 written_within at few room same = omega (arith, few, room, same)
 
--- the state otherwise written
-pub progress_as : {bytes : List ℕ} {formed : Bool} {s t u : State} {carry held : Carry} {chunk before after : List ℕ} {read wrote : ℕ} → u ≡ t
-    → Progress bytes formed s carry chunk before after t held read wrote → Progress bytes formed s carry chunk before after u held read wrote
-progress_as {bytes} {formed} {s} {t} {u} {carry} {held} {chunk} {before} {after} {read} {wrote} e h =
-    subst⁻¹ (λ (v : State). Progress bytes formed s carry chunk before after v held read wrote) e h
+-- the lines run on an agent's state are a journal of the agent
+pub feeds_by : {a : Agent} {carry : Carry} {chunk before after library : List ℕ} {formed : Bool} (r : Fed) → library ≡ bytes_of a
+    → formed ≡ is_well_formed_agent a → Progress library formed a.state carry chunk before after r.agent.state r.carry r.read r.wrote
+    → r.agent ≡ in_state a r.agent.state → r.read ≤ length chunk → r.wrote ≤ length after
+    → (r.read < length chunk → length after < r.wrote + most_line)
+    → (length after < r.wrote + most_line → Between carry r.carry r.read) → Feeds a carry chunk before after r
+feeds_by {a} {carry} {chunk} {before} {after} {formed = formed} r own test progress same within room whole stops =
+    let p = subst (λ (l : List ℕ). Progress l formed a.state carry chunk before after r.agent.state r.carry r.read r.wrote) own progress in
+    record {
+      calls = p.calls;
+      text = p.text;
+      said = p.said;
+      journal = subst⁻¹ (Journal a p.calls p.text) same (runs_journal a formed test p.runs);
+      written = p.written;
+      roomy = p.roomy;
+      so_far = p.so_far;
+      within = within;
+      room = room;
+      whole = whole;
+      stops = stops;
+    }

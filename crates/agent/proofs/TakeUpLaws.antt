@@ -1,12 +1,13 @@
 -- By the plan that was chosen the event is made or closed, or refused where no number is left; no other answer is a refusal.
 use Prim.Native.Nat.{ℕ, ◌<◌, ◌≤◌}
-use mathlib.Core.Path.{◌≡◌, refl, ap, sym, ◌∙◌}
+use mathlib.Core.Path.{◌≡◌, refl, ap, sym, subst⁻¹, ◌∙◌}
 use mathlib.Core.Bool.{true, false}
 use Rattle.std.specs.Prelude.{Option, None, Some}
 use mathlib.Core.List.{List}
 use borrow.Author.Tests.{lt-ltb, le-ltb}
 use Rattle.lists.specs.Places.{Placed}
 use Rattle.lists.proofs.OptionLaws.{some_equal, none-some}
+use Rattle.belief.specs.declared.Beliefs.{Beliefs}
 use Rattle.belief.specs.Beliefs.{view}
 use Rattle.library.specs.Layout.{library_of}
 use Rattle.situation.specs.declared.Selected.{Selected}
@@ -53,8 +54,12 @@ stated answer (Some chosen) plan e p =
     let env = ap (λ (x : Selected). x.env) (sym e) in
     λ i. Some (record { plan = number i; env = env i })
 
-module _ (s : State) (place : ℕ) (bytes : List ℕ) (event : Event) (choice : Selected) (r : Acted)
-    (chose : choice ≡ selected (choose (view s.beliefs) event.kind event.literal event.failed (library_of bytes).plans)) where
+module _ (s : State) (place : ℕ) (bytes : List ℕ) (event : Event) (choice : Selected) (r : Acted) (beliefs : Beliefs) (same : s.beliefs ≡ beliefs)
+    (given : choice ≡ selected (choose (view beliefs) event.kind event.literal event.failed (library_of bytes).plans)) where
+  chose : choice ≡ selected (choose (view s.beliefs) event.kind event.literal event.failed (library_of bytes).plans)
+  chose =
+      subst⁻¹ (λ (b : Beliefs). choice ≡ selected (choose (view b) event.kind event.literal event.failed (library_of bytes).plans)) same given
+
   -- the event is taken up
   abbrev TakenUp : Type 0
   TakenUp = Gives s (take_up (view_state s) (record { place = place; it = event }) (choice_for (library_of bytes) (view_state s) event)) r

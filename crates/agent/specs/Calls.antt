@@ -1,10 +1,11 @@
 -- What the calls of an agent give (document 01, "The three calls", "Who may cause which refusal").
 use Rattle.std.specs.Prelude.{◌≤◌, ◌≡◌, true}
 use Rattle.library.specs.Layout.{library_of}
-use Rattle.model.specs.State.{most_changes, Call, Reply, view_result}
+use Rattle.model.specs.State.{most_changes, Call, report, cycle, outcome, Reply, view_result}
 use Rattle.model.specs.Calls.{call_by, is_refusal}
 use Rattle.state.specs.View.{view_state, counts_fit}
-use Rattle.steps.specs.declared.Acted.{Acted}
+use Rattle.reading.specs.declared.Spoken.{Spoken}
+use Rattle.reading.specs.declared.Spoken.TheVariants.{Report, Cycle, Outcome}
 use Rattle.load.specs.declared.Agent.{Agent}
 use Rattle.load.specs.Load.{bytes_of, is_well_formed_agent}
 use Rattle.agent.specs.declared.Replied.{Replied}
@@ -25,7 +26,8 @@ pub record Calls (a : Agent) (c : Call) (r : Replied) : Type 0 where
   pub fit : is_well_formed_agent a ≡ true → counts_fit r.agent.state ≡ true
   pub count : r.result.count ≤ most_changes
 
--- ---- Its parts
-
-abbrev pub with_state : Agent → Acted → Replied
-with_state a acted = record { agent = record { library = a.library; length = a.length; state = acted.state }; result = acted.result }
+-- the call that is told
+abbrev pub call_of : Spoken → Call
+call_of (Report kind literal) = report kind literal
+call_of Cycle = cycle
+call_of (Outcome id worked) = outcome id worked

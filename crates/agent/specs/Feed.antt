@@ -1,6 +1,6 @@
 -- A chunk of the journal: its lines, run one after the other (document 01, "Journal").
--- The public contract is Feeds. Private vocabulary, on which no public contract rests: refusal_for, Trusted, Responds, Runs, in_state,
--- Progress, RunsChunk and RunsOn.
+-- The public contract is Feeds. Private vocabulary, on which no public contract rests: refusal_for, Trusted, Responds, Runs, in_state
+-- and Progress.
 use Rattle.std.specs.Prelude.{ℕ, ◌+◌, ◌≤◌, ◌<◌, ◌≡◌, Bool, true, ◌⊎◌, List, [], ◌∷◌, ◌++◌, length, take, drop, Option, None, Some}
 use Rattle.library.specs.Plan.{Library}
 use Rattle.library.specs.Layout.{library_of}
@@ -18,9 +18,8 @@ use Rattle.steps.specs.declared.Acted.{Acted}
 use Rattle.load.specs.declared.Agent.{Agent}
 use Rattle.agent.specs.declared.Replied.{Replied}
 use Rattle.agent.specs.declared.feed.Fed.{Fed}
-use Rattle.agent.specs.declared.feed.Ran.{Ran}
 use Rattle.steps.specs.View.{view_acted}
-use Rattle.formed.specs.Formed.{WellFormedState, is_well_formed_with}
+use Rattle.formed.specs.Formed.{WellFormedState}
 use Rattle.agent.specs.Calls.{Calls}
 
 -- ---- One line
@@ -98,20 +97,6 @@ pub record Progress (bytes : List ℕ) (formed : Bool) (s : State) (carry : Carr
   pub written : Wrote wrote before after 0 wrote text
   pub roomy : Roomy (length before) text
   pub so_far : begun held ≡ line_after (begun carry) (take read chunk)
-
--- the whole chunk, unless the output has no room for the longest line any more
-pub record RunsChunk (bytes : List ℕ) (formed : Bool) (s : State) (carry : Carry) (chunk before after : List ℕ) (r : Ran) : Type 0 where
-  pub progress : Progress bytes formed s carry chunk before after r.state r.carry r.read r.wrote
-  pub within : r.read ≤ length chunk
-  pub room : r.wrote ≤ length after
-  pub whole : r.read < length chunk → length after < r.wrote + most_line
-  pub stops : length after < r.wrote + most_line → Between carry r.carry r.read
-
--- the same for a library in the first bytes of an array, tested once
-pub record RunsOn (library : List ℕ) (size : ℕ) (s : State) (carry : Carry) (chunk before after : List ℕ) (r : Ran) : Type 0 where
-  pub bytes : List ℕ
-  pub own : is_well_formed_with library size s ≡ true → bytes ≡ take size library
-  pub ran : RunsChunk bytes (is_well_formed_with library size s) s carry chunk before after r
 
 -- what a chunk gives, by the contracts of the agent's calls: what the input says is what the lines run have said, and then what is
 -- left of it; their answers stand at the output's start, and every other byte is as it was.

@@ -1,6 +1,6 @@
 -- What a look at the stacks and the number of queued events tells of a line (document 01, "The three calls").
 -- Private vocabulary: no public contract rests on this file.
-use Rattle.std.specs.Prelude.{ℕ, ◌<◌, ◌≤◌, ◌≡◌, Bool, true, false, ◌&&◌, ◌||◌, List, length, ltb, Option, None, Some}
+use Rattle.std.specs.Prelude.{ℕ, ◌<◌, ◌≤◌, ◌≡◌, Bool, true, false, ◌&&◌, ◌||◌, length, ltb, Option, None, Some}
 use Rattle.std.specs.List.{list_any}
 use Rattle.lists.specs.Search.{position}
 use Rattle.model.specs.declared.Answer.{Answer}
@@ -14,8 +14,7 @@ use Rattle.state.specs.View.{view_stacks}
 use Rattle.state.specs.Search.{is_asleep}
 use Rattle.agent.specs.declared.look.Look.{Look}
 use Rattle.agent.specs.declared.look.Look.TheVariants as look
-use Rattle.steps.specs.View.{plainly}
-use Rattle.agent.specs.Feed.{refusal_for, Trusted, Responds}
+use Rattle.agent.specs.Feed.{refusal_for}
 
 -- there are more events than live instances, and there is room for a stack or a suspended top
 unfoldable pub may_take_up : State → Bool
@@ -36,24 +35,8 @@ module _ (formed : Bool) (s : State) where
   Looks call (look.Reports kind l) = (formed ≡ true) × (call ≡ Some (report kind l))
   Looks call look.Searches = (formed ≡ true) × (call ≡ Some cycle)
   Looks call (look.Turns place) =
-      (formed ≡ true) × (call ≡ Some cycle) × (may_take_up s ≡ false) × (place ≡ position is_running (view_stacks s)) × (place < s.stacked)
+      (formed ≡ true) × (call ≡ Some cycle) × (may_take_up s ≡ false)
+      × (place ≡ position is_running (view_stacks s)) × (place < s.stacked)
   Looks call (look.Tells place worked) =
       (formed ≡ true)
       × ((id : ℕ) × (call ≡ Some (outcome id worked)) × (place ≡ position (is_awaiting id) (view_stacks s)) × (place < s.stacked))
-
--- the same, the answer by what it is for every library that the state is trusted with
-abbrev pub Looked : Bool → State → Option Call → Look → Type 0
-Looked formed s call (look.Answered answer) =
-    (bytes : List ℕ) → Trusted formed bytes s → Responds bytes formed s call (plainly s answer)
-Looked formed s call (look.Reports kind l) = Looks formed s call (look.Reports kind l)
-Looked formed s call look.Searches = Looks formed s call look.Searches
-Looked formed s call (look.Turns place) = Looks formed s call (look.Turns place)
-Looked formed s call (look.Tells place worked) = Looks formed s call (look.Tells place worked)
-
--- the place of the stack that a look tells of
-abbrev pub place_of : Look → ℕ
-place_of (look.Answered answer) = 0
-place_of (look.Reports kind l) = 0
-place_of look.Searches = 0
-place_of (look.Turns place) = place
-place_of (look.Tells place worked) = place

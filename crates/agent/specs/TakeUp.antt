@@ -13,7 +13,8 @@ use Rattle.model.specs.declared.Origin.{Origin}
 use Rattle.model.specs.Instance.{awake}
 use Rattle.model.specs.State.{most_stacks, AgentState, Reply}
 use Rattle.model.specs.Live.{is_goal, is_poster}
-use Rattle.model.specs.Event.{pushed, take_up}
+use Rattle.situation.specs.Applicable.{Chosen}
+use Rattle.model.specs.Event.{new_instance, pushed, make, take_up}
 use Rattle.model.specs.Cycle.{choice_for}
 use Rattle.state.specs.declared.Stack.{Stack}
 use Rattle.state.specs.declared.State.{State}
@@ -84,6 +85,11 @@ pub record Has (s : State) (beliefs : Beliefs) (made : ℕ) (stacks : List Stack
 abbrev pub Makes : Beliefs → ℕ → List Stack → (AgentState → Reply) → Step → Type 0
 Makes beliefs made stacks expected t =
     (s : State) → Has s beliefs made stacks → Replies (expected (view_state s)) (applied s t)
+
+-- the step of this instance made for an event of this origin, where it is the next one of a plan that was chosen
+abbrev pub MakesFor : Beliefs → ℕ → List Stack → Origin → Instance → Step → Type 0
+MakesFor beliefs made stacks origin x t =
+    (chosen : Chosen) → x ≡ new_instance made chosen → Makes beliefs made stacks (λ s. make s chosen origin) t
 
 -- the step of an event closed, whatever number of instances was made
 abbrev pub Closes : Beliefs → List Stack → (AgentState → Reply) → Step → Type 0

@@ -1,6 +1,6 @@
 -- What a turn's workers need, and what their steps give on every state that has the parts that they were decided from.
 -- Private vocabulary: no public contract rests on this file.
-use Rattle.std.specs.Prelude.{ℕ, ◌<◌, ◌≤◌, ◌≡◌, Bool, true, false, List, [], ◌∷◌, ◌++◌, Option, None, Some}
+use Rattle.std.specs.Prelude.{ℕ, ◌<◌, ◌≤◌, ◌≡◌, true, List, [], ◌∷◌, ◌++◌, Option, None, Some}
 use Rattle.lists.specs.Gap.{remove_at}
 use Rattle.lists.specs.Places.{Placed}
 use Rattle.literal.specs.declared.Literal.{Literal}
@@ -104,10 +104,6 @@ poster_after Failure library x = x
 abbrev pub end_answer : Ending → ℕ → Answer
 end_answer Success id = Succeeded id
 end_answer Failure id = Failed id
-
-abbrev pub succeeds : Ending → Bool
-succeeds Success = true
-succeeds Failure = false
 
 -- the model's reply
 abbrev pub end_by : Ending → Library → AgentState → Placed Intention → Reply

@@ -7,9 +7,10 @@ ghost use Rattle.agent.specs.Turnable.{placed, left, poster_after, end_by, Ended
 
 use crate::turn::Turn;
 use jobs::instance;
-use model::Answer;
+use library::plan::PlanRef;
+use model::{Answer, Instance};
 use moves::{Numbering, QueueMove, StackMove};
-use state::{Stack, stacks};
+use state::Stack;
 use steps::step::Step;
 use steps::{ends, step};
 use trials::changes;
@@ -40,20 +41,26 @@ pub(crate) fn ended(
     }
 }
 
-// The stack without its top, none where the top was alone: a poster below steps past its goal, or stays as it is.
+// A poster whose goal ended: it steps past it, or stays as it is.
+fn poster_after(library: &[u8], ending: Ending, poster: Instance) -> Instance
+    ensures { result ≡ poster_after ending (library_of library.now) poster }
+{
+    match ending {
+        Ending::Success => instance::past_branch(library, poster),
+        Ending::Failure => poster,
+    }
+}
+
+// The stack without its top, none where the top was alone.
 fn popped(library: &[u8], stack: Stack, ending: Ending) -> Option<Stack>
     ensures shown { left result ≡ popped stack.external (poster_after ending (library_of library.now)) (view_stack stack).below }
     ensures fits { IfSome result (λ next. next.depth ≤ most_below) }
 {
-    if stacks::depth_of(stack) < 1 {
+    if stack.depth() < 1 {
         return None;
     }
-    let poster = stacks::under_top(stack);
-    let after = match ending {
-        Ending::Success => instance::past_branch(library, poster),
-        Ending::Failure => poster,
-    };
-    Some(stacks::popped(stack, after))
+    let after = poster_after(library, ending, stack.under_top());
+    Some(stack.popped(after))
 }
 
 impl Turn<'_> {
@@ -63,12 +70,17 @@ impl Turn<'_> {
             (λ s. end_by ending (library_of self.now.library.now) s (placed self.now.place self.now.stack)) result }
     {
         let x = self.stack.top;
-        let altered = changes::list_run(self.library, x.plan as usize, ending, x.env, self.beliefs);
-        let next = popped(self.library, self.stack, ending);
-        let (answer, queue) = match ending {
-            Ending::Success => (Answer::Succeeded(x.id), ends::end_move(self.stack, true)),
-            Ending::Failure => (Answer::Failed(x.id), ends::end_move(self.stack, false)),
+        let plan = PlanRef {
+            library: self.library,
+            number: x.plan as usize,
         };
+        let altered = changes::list_run(&plan, ending, x.env, self.beliefs);
+        let next = popped(self.library, self.stack, ending);
+        let answer = match ending {
+            Ending::Success => Answer::Succeeded(x.id),
+            Ending::Failure => Answer::Failed(x.id),
+        };
+        let queue = ends::end_move(self.stack, ending);
         ended(self.place, next, answer, altered, queue)
     }
 }

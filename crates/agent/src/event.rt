@@ -1,187 +1,166 @@
 // Taking up a pending event: an instance is made for it, or it is closed.
-ghost use Rattle.std.specs.Prelude.{◌≡◌, ◌<◌, ◌≤◌};
-ghost use Rattle.model.specs.State.{most_number};
-ghost use Rattle.model.specs.Event.{new_instance, pushed, make, close};
+ghost use Rattle.std.specs.Prelude.{◌≡◌, ◌<◌, ◌≤◌, true};
+ghost use Rattle.model.specs.Live.{is_goal};
+ghost use Rattle.model.specs.Event.{pushed, close};
+ghost use Rattle.situation.specs.FailedSet.{size_of};
 ghost use Rattle.state.specs.View.{most_below, view_stack};
-ghost use Rattle.agent.specs.TakeUp.{HasPlace, opened_step, Pushes, Drops, unmet_step, Makes, Closes, TakesUp};
+ghost use Rattle.agent.specs.TakeUp.{poster_in, HasPlace, opened_step, Drops, MakesFor, Closes, TakesUp};
 
 use belief::Beliefs;
 use jobs::instance;
-use literal::Env;
-use model::{Answer, Event, Instance, MOST_NUMBER, Number, Origin, Status};
+use model::{Answer, Event, Instance, Number, Origin, Status};
 use moves::{Numbering, QueueMove, StackMove};
 use refusals::Refusal;
 use situation::failed;
-use state::{Stack, search, stacks};
+use state::{Stack, search};
 use steps::step;
 use steps::step::Step;
 
-// A new active instance, numbered after the last one made.
-fn new_instance(made: Number, plan: u16, env: Env) -> Instance
-    requires { made < most_number }
-    ensures { result ≡ new_instance made (record { plan = plan; env = env }) }
-{
-    Instance {
-        id: made + 1,
-        plan,
-        env,
-        state: 0,
-        tried: 0,
-        status: Status::Active,
-    }
-}
-
-// The poster's stack, with the new instance on it.
+// The poster's stack, with the new instance on it; by value, since of a stack in a slice the length of its array is not known.
 fn with_pushed(stack: Stack, x: Instance) -> Stack
     requires { stack.depth < most_below }
     ensures { (view_stack result ≡ pushed x (view_stack stack)) × (result.depth ≤ most_below) }
 {
-    stacks::pushed(stack, x)
+    stack.pushed(x)
 }
 
-// ---- Made
-
-// An instance for an external event, on a new stack last in turn.
-fn make_external(b: Beliefs, x: Instance, external: Number) -> Step
-    ensures { result ≡ opened_step b x external }
-{
-    let answer = Answer::MadeExternal {
-        instance: x.id,
-        plan: x.plan,
-        external,
-    };
-    step::plain_step(
-        b,
-        answer,
-        QueueMove::Keep,
-        StackMove::Open,
-        step::new_stack(external, x),
-        Numbering::Made(x.id),
-    )
+// A pending event that is taken up, with its place in the queue, and what that is decided by.
+#[derive(Clone, Copy)]
+pub(crate) struct TakeUp<'a> {
+    pub(crate) library: &'a [u8],
+    pub(crate) beliefs: Beliefs,
+    pub(crate) made: Number,
+    pub(crate) stacks: &'a [Stack],
+    pub(crate) place: usize,
+    pub(crate) event: Event,
+    pub(crate) ghost has_place: { HasPlace stacks.now event.origin },
 }
 
-// An instance for a goal, on its poster's stack.
-fn make_goal(b: Beliefs, x: Instance, instance: Number, poster: usize, stack: Stack) -> Step
-    requires { stack.depth < most_below }
-    ensures { Pushes b x instance poster stack result }
-{
-    let higher = with_pushed(stack, x);
-    let answer = Answer::MadeGoal {
-        instance: x.id,
-        plan: x.plan,
-        poster: instance,
-    };
-    step::plain_step(
-        b,
-        answer,
-        QueueMove::Keep,
-        StackMove::Replace(poster),
-        higher,
-        Numbering::Made(x.id),
-    )
-}
+impl TakeUp<'_> {
+    // The place of the stack whose top posted the goal.
+    fn poster(&self) -> usize
+        requires { is_goal self.now.event.origin ≡ true }
+        ensures { result ≡ poster_in self.now.stacks.now self.now.event.origin }
+    {
+        search::poster_place(self.stacks, self.event.origin).unwrap()
+    }
 
-// An instance for the event.
-fn make_event(
-    b: Beliefs,
-    made: Number,
-    stacks: &[Stack],
-    origin: Origin,
-    plan: u16,
-    env: Env,
-) -> Step
-    requires { HasPlace stacks.now origin × (made < most_number) }
-    ensures { Makes b made stacks.now (λ s. make s (record { plan = plan; env = env }) origin) result }
-{
-    let x = new_instance(made, plan, env);
-    match origin {
-        Origin::External(external) => make_external(b, x, external),
-        Origin::Goal { instance, .. } => {
-            let poster = search::poster_place(stacks, origin).unwrap();
-            make_goal(b, x, instance, poster, stacks[poster])
+    // ---- Made
+
+    // An instance for an external event, on a new stack last in turn.
+    fn open(&self, x: Instance, external: Number) -> Step
+        ensures { result ≡ opened_step self.now.beliefs x external }
+    {
+        let answer = Answer::MadeExternal {
+            instance: x.id,
+            plan: x.plan,
+            external,
+        };
+        Step {
+            stacks: StackMove::Open,
+            stack: step::new_stack(external, x),
+            numbering: Numbering::Made(x.id),
+            ..Step::unchanged(self.beliefs, answer)
         }
     }
-}
 
-// ---- Closed
+    // An instance for the event: for a goal on its poster's stack.
+    fn make(&self, x: Instance) -> Step
+        ensures { MakesFor self.now.beliefs self.now.made self.now.stacks.now self.now.event.origin x result }
+    {
+        match self.event.origin {
+            Origin::External(external) => self.open(x, external),
+            Origin::Goal { instance, .. } => {
+                let poster = self.poster();
+                let higher = with_pushed(self.stacks[poster], x);
+                let answer = Answer::MadeGoal {
+                    instance: x.id,
+                    plan: x.plan,
+                    poster: instance,
+                };
+                Step {
+                    stacks: StackMove::Replace(poster),
+                    stack: higher,
+                    numbering: Numbering::Made(x.id),
+                    ..Step::unchanged(self.beliefs, answer)
+                }
+            }
+        }
+    }
 
-// An external event for which no plan applies is dropped.
-fn drop_event(b: Beliefs, place: usize, external: Number, failures: u32) -> Step
-    ensures { Drops b place external failures result }
-{
-    step::plain_step(
-        b,
-        Answer::Dropped { external, failures },
-        QueueMove::Remove(place),
-        StackMove::Keep,
-        step::no_stack(),
-        Numbering::Keep,
-    )
-}
+    // ---- Closed
 
-// A goal for which no plan applies is unmet: its poster is active again.
-fn unmet_goal(b: Beliefs, place: usize, answer: Answer, poster: usize, stack: Stack) -> Step
-    ensures { result ≡ unmet_step b place answer poster stack }
-{
-    step::plain_step(
-        b,
-        answer,
-        QueueMove::Remove(place),
-        StackMove::Replace(poster),
-        Stack {
-            top: instance::awoken(stack.top),
-            ..stack
-        },
-        Numbering::Keep,
-    )
-}
+    // An external event for which no plan applies is dropped.
+    fn drop_event(&self, external: Number) -> Step
+        ensures { Drops self.now.beliefs self.now.place external (size_of self.now.event.failed) result }
+    {
+        let failures = failed::size(self.event.failed);
+        Step {
+            queue: QueueMove::Remove(self.place),
+            ..Step::unchanged(self.beliefs, Answer::Dropped { external, failures })
+        }
+    }
 
-// The event leaves the queue.
-fn close_event(b: Beliefs, stacks: &[Stack], place: usize, event: Event) -> Step
-    requires { HasPlace stacks.now event.origin }
-    ensures { Closes b stacks.now (λ s. close s (record { place = place; it = event }) event.origin) result }
-{
-    let failures = failed::size(event.failed);
-    let origin = event.origin;
-    match origin {
-        Origin::External(external) => drop_event(b, place, external, failures),
-        Origin::Goal {
-            instance,
-            state,
-            branch,
-        } => {
-            let poster = search::poster_place(stacks, origin).unwrap();
-            let answer = Answer::Unmet {
+    // The event leaves the queue: a goal for which no plan applies is unmet, and its poster is active again.
+    fn close(&self) -> Step
+        ensures { Closes self.now.beliefs self.now.stacks.now
+            (λ s. close s (record { place = self.now.place; it = self.now.event }) self.now.event.origin) result }
+    {
+        match self.event.origin {
+            Origin::External(external) => self.drop_event(external),
+            Origin::Goal {
                 instance,
                 state,
                 branch,
-                failures,
-            };
-            unmet_goal(b, place, answer, poster, stacks[poster])
+            } => {
+                let poster = self.poster();
+                let stack = self.stacks[poster];
+                let failures = failed::size(self.event.failed);
+                let answer = Answer::Unmet {
+                    instance,
+                    state,
+                    branch,
+                    failures,
+                };
+                let top = instance::awoken(stack.top);
+                Step {
+                    queue: QueueMove::Remove(self.place),
+                    stacks: StackMove::Replace(poster),
+                    stack: Stack { top, ..stack },
+                    ..Step::unchanged(self.beliefs, answer)
+                }
+            }
         }
     }
-}
 
-// ---- Taken up
+    // ---- Taken up
 
-// The event at a place is taken up: by the first applicable plan, or closed; refused where no instance number is left.
-pub(crate) fn take_up(
-    library: &[u8],
-    b: Beliefs,
-    made: Number,
-    stacks: &[Stack],
-    place: usize,
-    event: Event,
-) -> Step
-    requires { HasPlace stacks.now event.origin }
-    ensures { TakesUp library.now b made stacks.now place event result }
-{
-    let selected = situation::choose_plan(library, b, event.kind, event.literal, event.failed);
-    let Some(plan) = selected.choice else {
-        return close_event(b, stacks, place, event);
-    };
-    if MOST_NUMBER <= made {
-        return step::no_step(b, Answer::Refused(Refusal::NumbersSpent as u16));
+    // By the first applicable plan an instance is made, else the event is closed; refused where no instance number is left.
+    pub(crate) fn step(&self) -> Step
+        ensures { TakesUp self.now.library.now self.now.beliefs self.now.made self.now.stacks.now self.now.place self.now.event result }
+    {
+        let event = self.event;
+        let b = self.beliefs;
+        let selected = situation::choose_plan(
+            self.library,
+            b,
+            event.kind,
+            event.literal,
+            event.failed,
+        );
+        let Some(plan) = selected.choice else {
+            return self.close();
+        };
+        let Some(id) = self.made.checked_add(1) else {
+            return Step::unchanged(b, Answer::Refused(Refusal::NumbersSpent as u16));
+        };
+        self.make(Instance {
+            id,
+            plan,
+            env: selected.env,
+            state: 0,
+            tried: 0,
+            status: Status::Active,
+        })
     }
-    make_event(b, made, stacks, event.origin, plan, selected.env)
 }

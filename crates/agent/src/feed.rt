@@ -1,12 +1,12 @@
 // A chunk of the journal: its lines are run one after the other. The well-formed test is made once, and what it shows is kept.
-ghost use Rattle.agent.specs.Feed.{Trusted, RunsChunk, RunsOn, Feeds};
+ghost use Rattle.std.specs.Prelude.{◌≡◌};
+ghost use Rattle.agent.specs.Feed.{Feeds};
 
 use crate::look::Look;
 use crate::{look, respond};
 use load::Agent;
 use printing::MOST_LINE;
-use state::State;
-use steps::{answer, step};
+use steps::answer;
 use stream::Carry;
 
 // The agent and the line so far after a chunk, how much of the chunk was read and how much of the output written.
@@ -18,43 +18,21 @@ pub struct Fed {
     pub wrote: usize,
 }
 
-// The same, of the agent's state.
-#[derive(Clone, Copy)]
-struct Ran {
-    state: State,
-    carry: Carry,
-    read: usize,
-    wrote: usize,
-}
-
-// ---- A chunk
-
-// Lines are run as long as the chunk has one and the output has room for the longest.
-fn run_lines(
-    library: &[u8],
-    formed: bool,
-    mut state: State,
-    mut held: Carry,
-    chunk: &[u8],
-    out: &mut [u8],
-) -> Ran
-    requires { Trusted formed library.now state }
-    ensures { RunsChunk library.now formed state held chunk.now out.old out.new result }
+// A chunk of input: each line that ends in it is run, and its answer written, as long as the output has room for the longest line.
+pub fn feed(a: Agent, carry: Carry, chunk: &[u8], out: &mut [u8]) -> Fed
+    ensures { Feeds a carry chunk.now out.old out.new result }
 {
+    let formed = formed::is_well_formed(&a.library, a.length, a.state);
+    let library = a.bytes();
+    let mut state = a.state;
+    let mut held = carry;
     let mut read: usize = 0;
     let mut wrote: usize = 0;
-    while read < chunk.len() {
-        if out.len() - wrote < MOST_LINE {
-            return Ran {
-                state,
-                carry: held,
-                read,
-                wrote,
-            };
-        }
+    // No `for`: a turn goes on by as many bytes as the line has.
+    while read < chunk.len() && MOST_LINE <= out.len() - wrote {
         let Some(line) = stream::next_line(chunk, read, held) else {
-            return Ran {
-                state,
+            return Fed {
+                agent: Agent { state, ..a },
                 carry: stream::carried(chunk, read, held),
                 read: chunk.len(),
                 wrote,
@@ -62,55 +40,19 @@ fn run_lines(
         };
         held = stream::no_line();
         read = line.at;
-        let call = line.call;
-        let look = look::look_at(formed, &state, call);
-        let Look::Answered(answer) = look else {
-            let at = look::place_of(look);
-            let top = state.stacks[at];
-            let step = respond::act(library, formed, state, call, look, top);
-            wrote = printing::print_result(out, wrote, step::result_of(&step));
-            step.apply(&mut state);
+        let look = look::look_at(formed, &state, line.call);
+        // Printed where it is made: a result that a function hands on is copied twice, and such a line took 1.8 times as long.
+        if let Look::Answered(answer) = look {
+            wrote = printing::print_result(out, wrote, answer::plain_result(answer));
             continue;
-        };
-        wrote = printing::print_result(out, wrote, answer::plain_result(answer));
+        }
+        let result = respond::moved(library, formed, &mut state, line.call, look);
+        wrote = printing::print_result(out, wrote, result);
     }
-    Ran {
-        state,
+    Fed {
+        agent: Agent { state, ..a },
         carry: held,
         read,
         wrote,
-    }
-}
-
-// The same on the library in the first `length` bytes, tested first.
-fn run_tested(
-    library: &[u8],
-    length: usize,
-    s: State,
-    carry: Carry,
-    chunk: &[u8],
-    out: &mut [u8],
-) -> Ran
-    ensures { RunsOn library.now length s carry chunk.now out.old out.new result }
-{
-    if !formed::is_well_formed(library, length, s) {
-        return run_lines(library, false, s, carry, chunk, out);
-    }
-    run_lines(&library[..length], true, s, carry, chunk, out)
-}
-
-// A chunk of input: each line that ends in it is run, and its answer written, as long as the output has room for the longest line.
-pub fn feed(a: Agent, carry: Carry, chunk: &[u8], out: &mut [u8]) -> Fed
-    ensures { Feeds a carry chunk.now out.old out.new result }
-{
-    let ran = run_tested(&a.library, a.length, a.state, carry, chunk, out);
-    Fed {
-        agent: Agent {
-            state: ran.state,
-            ..a
-        },
-        carry: ran.carry,
-        read: ran.read,
-        wrote: ran.wrote,
     }
 }

@@ -3,8 +3,7 @@ ghost use Rattle.std.specs.Prelude.{◌≡◌, true, ◌≤◌, Some};
 ghost use Rattle.model.specs.State.{most_stacks, cycle, outcome};
 ghost use Rattle.reading.specs.Spoken.{meaning};
 ghost use Rattle.agent.specs.Feed.{refusal_for};
-ghost use Rattle.steps.specs.View.{Sized};
-ghost use Rattle.agent.specs.Look.{may_take_up, Looks, Looked, place_of};
+ghost use Rattle.agent.specs.Look.{may_take_up, Looks};
 
 use literal::Literal;
 use model::{Answer, Number};
@@ -17,6 +16,7 @@ const UNREADABLE: Answer = Answer::Refused(0);
 
 // An answer that leaves the state as it is; a report; a cycle in which some event may be taken up;
 // one in which none may and the stack at a place runs; an outcome that the stack at a place waits for.
+// The kind of a report is any 16 bits, as it was told: a narrower type would refuse here what the report's own step refuses.
 #[derive(Clone, Copy)]
 pub enum Look {
     Answered(Answer),
@@ -31,7 +31,7 @@ pub enum Look {
 fn may_take_up(s: &State) -> bool
     ensures { result ≡ may_take_up s.now }
 {
-    search::live_count(s) < s.queued
+    search::live_count(s.standing()) < s.queued
         && (s.stacked < MOST_STACKS || search::has_sleeper(s.standing()))
 }
 
@@ -59,7 +59,7 @@ fn look_at_outcome(s: &State, id: Number, worked: bool) -> Look
 }
 
 // What a line is answered where the state is not well formed.
-pub(crate) fn unformed_answer(spoken: Option<Spoken>) -> Answer
+fn unformed_answer(spoken: Option<Spoken>) -> Answer
     ensures { result ≡ Answer.Refused (refusal_for (meaning spoken)) }
 {
     match spoken {
@@ -69,7 +69,7 @@ pub(crate) fn unformed_answer(spoken: Option<Spoken>) -> Answer
 }
 
 // The look at a line, by whether the state is well formed.
-fn look_by(formed: bool, s: &State, spoken: Option<Spoken>) -> Look
+pub(crate) fn look_at(formed: bool, s: &State, spoken: Option<Spoken>) -> Look
     requires { formed ≡ true → s.now.stacked ≤ most_stacks }
     ensures { Looks formed s.now (meaning spoken) result }
 {
@@ -83,23 +83,5 @@ fn look_by(formed: bool, s: &State, spoken: Option<Spoken>) -> Look
         Spoken::Report { kind, literal } => Look::Reports { kind, literal },
         Spoken::Cycle => look_at_cycle(s),
         Spoken::Outcome { id, worked } => look_at_outcome(s, id, worked),
-    }
-}
-
-// The same, of a state, and what it answers whatever the library.
-pub(crate) fn look_at(formed: bool, s: &State, spoken: Option<Spoken>) -> Look
-    requires { Sized s.now × (formed ≡ true → s.now.stacked ≤ most_stacks) }
-    ensures { Looked formed s.now (meaning spoken) result }
-{
-    look_by(formed, s, spoken)
-}
-
-// The place of the stack that a look tells of; the first where it tells of none.
-pub(crate) fn place_of(look: Look) -> usize
-    ensures { result ≡ place_of look }
-{
-    match look {
-        Look::Turns(place) | Look::Tells { place, .. } => place,
-        _ => 0,
     }
 }

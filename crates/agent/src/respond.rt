@@ -1,67 +1,82 @@
 // What a line or a call gives: a look first, then what moves the state.
-ghost use Rattle.std.specs.Prelude.{◌≡◌, take};
+ghost use Rattle.std.specs.Prelude.{◌≡◌};
 ghost use Rattle.reading.specs.Spoken.{meaning};
-ghost use Rattle.formed.specs.Formed.{is_well_formed_with};
-ghost use Rattle.agent.specs.Feed.{Trusted, Responds};
-ghost use Rattle.steps.specs.View.{stack_at};
+ghost use Rattle.steps.specs.View.{Sized};
 ghost use Rattle.steps.specs.Step.{applied};
-ghost use Rattle.agent.specs.Look.{Looked, place_of};
+ghost use Rattle.agent.specs.Feed.{Trusted, Responds};
+ghost use Rattle.agent.specs.Look.{Looks};
 
 use crate::look::Look;
 use crate::turn::Turn;
 use crate::{cycle, look};
+use model::Answered;
 use reading::Spoken;
-use state::{Stack, State};
+use state::State;
+use steps::report::{Listener, Report};
 use steps::step::Step;
-use steps::{Acted, answer, outcome, report, step};
+use steps::{answer, outcome};
 
-// What the look at a line told is done, with the stack that it told of.
-pub(crate) fn act(
-    library: &[u8],
-    formed: bool,
-    s: State,
-    spoken: Option<Spoken>,
-    look: Look,
-    stack: Stack,
-) -> Step
-    requires { Trusted formed library.now s × (Looked formed s (meaning spoken) look × (stack ≡ stack_at s (place_of look))) }
-    ensures { Responds library.now formed s (meaning spoken) (applied s result) }
+// Library, state and what is told are parameters: a step changes the state alone, and a struct of them would be made anew for each line.
+
+// What the look at a line told is done.
+fn act(library: &[u8], formed: bool, s: &State, spoken: Option<Spoken>, look: Look) -> Step
+    requires { Trusted formed library.now s.now × (Looks formed s.now (meaning spoken) look × Sized s.now) }
+    ensures { Responds library.now formed s.now (meaning spoken) (applied s.now result) }
 {
-    let b = s.beliefs;
+    // A `match`: in the place of a look, which is a value (Looks), a step to run would be a function pointer or a boxed closure.
     match look {
-        Look::Answered(answer) => step::no_step(b, answer),
+        Look::Answered(answer) => Step::unchanged(s.beliefs, answer),
         Look::Reports { kind, literal } => {
-            report::report_on(b, s.events(), s.taken, kind, literal)
+            let listener = Listener {
+                beliefs: &s.beliefs,
+                events: s.events(),
+                taken: s.taken,
+            };
+            listener.hear(Report { kind, literal })
         }
         Look::Searches => cycle::cycle_on(library, s),
         Look::Turns(place) => {
             let turn = Turn {
                 library,
-                beliefs: b,
+                beliefs: s.beliefs,
                 place,
-                stack,
+                stack: s.stacks[place],
             };
             turn.step()
         }
-        Look::Tells { place, worked } => outcome::tell_at(library, b, place, stack, worked),
+        Look::Tells { place, worked } => {
+            outcome::tell_at(library, s.beliefs, place, s.stacks[place], worked)
+        }
     }
 }
 
-// A call, on the library in the first `length` bytes and a state: 10 first where they are not well formed.
-pub(crate) fn respond(library: &[u8], length: usize, s: State, spoken: Option<Spoken>) -> Acted
-    ensures { Responds (take length library.now) (is_well_formed_with library.now length s) s
-        (meaning spoken) result }
+// The step that a look told, made on the state. By itself and not inlined: a line that the look answers need not set up a step's 928 bytes.
+#[inline(never)]
+pub(crate) fn moved(
+    library: &[u8],
+    formed: bool,
+    s: &mut State,
+    spoken: Option<Spoken>,
+    look: Look,
+) -> Answered
+    requires { Trusted formed library.now s.old × (Looks formed s.old (meaning spoken) look × Sized s.old) }
+    ensures responds { Responds library.now formed s.old (meaning spoken) (record { state = s.new; result = result }) }
+    ensures sized { Sized s.new }
 {
-    if !formed::is_well_formed(library, length, s) {
-        return answer::acted(s, look::unformed_answer(spoken));
+    let step = act(library, formed, s, spoken, look);
+    step.apply(s);
+    step.result()
+}
+
+// A line on a state, by whether the state is well formed: the result, and the state after it.
+pub(crate) fn run(library: &[u8], formed: bool, s: &mut State, spoken: Option<Spoken>) -> Answered
+    requires { Trusted formed library.now s.old × Sized s.old }
+    ensures responds { Responds library.now formed s.old (meaning spoken) (record { state = s.new; result = result }) }
+    ensures sized { Sized s.new }
+{
+    let look = look::look_at(formed, s, spoken);
+    if let Look::Answered(answer) = look {
+        return answer::plain_result(answer);
     }
-    let look = look::look_at(true, &s, spoken);
-    let Look::Answered(answer) = look else {
-        let own = &library[..length];
-        let at = look::place_of(look);
-        let stack = s.stacks[at];
-        let t = act(own, true, s, spoken, look, stack);
-        return step::acted_by(s, t);
-    };
-    answer::acted(s, answer)
+    moved(library, formed, s, spoken, look)
 }

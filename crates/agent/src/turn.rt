@@ -11,11 +11,10 @@ use jobs::{decision, instance};
 use library::Branch;
 use model::{Answer, Event, Instance, Origin, Status};
 use moves::QueueMove;
-use state::{Stack, stacks};
+use state::Stack;
 use steps::step::Step;
 use trials::changes::Ending;
-use trials::tries;
-use trials::tries::{Outcome, Trial};
+use trials::tries::{Outcome, Start, Trial};
 
 // A stack that has its turn, with its place, and what the turn is decided by.
 #[derive(Clone, Copy)]
@@ -29,74 +28,88 @@ pub(crate) struct Turn<'a> {
 
 // ---- What came of a branch
 
-// One branch more is tried.
-fn with_try(x: Instance, status: Status) -> Instance
-    requires { x.tried ≤ 4 }
-    ensures { result ≡ try_next status x }
-{
-    let tried = x.tried + 1;
-    Instance { tried, status, ..x }
+// A branch that a top tried, and what came of it.
+#[derive(Clone, Copy)]
+struct Tried<'a> {
+    top: Instance,
+    branch: Branch,
+    trial: &'a Trial,
+    ghost few: { top.tried ≤ 4 },
 }
 
-// The instance after it: it misses and stays active, steps with no branch tried, waits for its action's outcome, or is suspended.
-fn top_after(x: Instance, branch: Branch, trial: &Trial) -> Instance
-    requires { x.tried ≤ 4 }
-    ensures { result ≡ top_after x branch (view_trial trial.now) }
-{
-    match trial.outcome {
-        Outcome::Missed => with_try(x, Status::Active),
-        Outcome::Stepped => instance::stepped_to(x, branch.next, trial.env),
-        Outcome::Done(_) => with_try(x, Status::Waiting),
-        Outcome::Posted(_) => with_try(x, Status::Suspended),
+impl Tried<'_> {
+    // The top with one branch more tried.
+    fn with_try(&self, status: Status) -> Instance
+        ensures { result ≡ try_next status self.now.top }
+    {
+        let tried = self.top.tried + 1;
+        Instance {
+            tried,
+            status,
+            ..self.top
+        }
     }
-}
 
-// What is answered.
-fn answer_to(x: Instance, branch: Branch, trial: &Trial) -> Answer
-    ensures { result ≡ answer_to x branch (view_trial trial.now) }
-{
-    match trial.outcome {
-        Outcome::Missed => Answer::Missed {
-            instance: x.id,
-            state: x.state,
-            branch: x.tried,
-        },
-        Outcome::Stepped => Answer::Stepped {
-            instance: x.id,
-            state: x.state,
-            branch: x.tried,
-            next: branch.next,
-        },
-        Outcome::Done(literal) => Answer::Done {
-            instance: x.id,
-            state: x.state,
-            branch: x.tried,
-            literal,
-        },
-        Outcome::Posted(_) => Answer::Posted {
-            instance: x.id,
-            state: x.state,
-            branch: x.tried,
-        },
+    // The top after it: it misses and stays active, steps with no branch tried, waits for its action's outcome, or is suspended.
+    fn top_after(&self) -> Instance
+        ensures { result ≡ top_after self.now.top self.now.branch (view_trial self.now.trial.now) }
+    {
+        match self.trial.outcome {
+            Outcome::Missed => self.with_try(Status::Active),
+            Outcome::Stepped => instance::stepped_to(self.top, self.branch.next, self.trial.env),
+            Outcome::Done(_) => self.with_try(Status::Waiting),
+            Outcome::Posted(_) => self.with_try(Status::Suspended),
+        }
     }
-}
 
-// What becomes of the queue: a goal that is posted joins it.
-fn queue_after(x: Instance, branch: Branch, trial: &Trial) -> QueueMove
-    ensures { result ≡ queue_after x branch (view_trial trial.now) }
-{
-    match trial.outcome {
-        Outcome::Posted(literal) => QueueMove::Enqueue(Event {
-            origin: Origin::Goal {
-                instance: x.id,
-                state: x.state,
-                branch: x.tried,
+    // What is answered.
+    fn answer_to(&self) -> Answer
+        ensures { result ≡ answer_to self.now.top self.now.branch (view_trial self.now.trial.now) }
+    {
+        let (instance, state, branch) = (self.top.id, self.top.state, self.top.tried);
+        match self.trial.outcome {
+            Outcome::Missed => Answer::Missed {
+                instance,
+                state,
+                branch,
             },
-            kind: branch.kind,
-            literal,
-            failed: 0,
-        }),
-        _ => QueueMove::Keep,
+            Outcome::Stepped => Answer::Stepped {
+                instance,
+                state,
+                branch,
+                next: self.branch.next,
+            },
+            Outcome::Done(literal) => Answer::Done {
+                instance,
+                state,
+                branch,
+                literal,
+            },
+            Outcome::Posted(_) => Answer::Posted {
+                instance,
+                state,
+                branch,
+            },
+        }
+    }
+
+    // What becomes of the queue: a goal that is posted joins it.
+    fn queue_after(&self) -> QueueMove
+        ensures { result ≡ queue_after self.now.top self.now.branch (view_trial self.now.trial.now) }
+    {
+        match self.trial.outcome {
+            Outcome::Posted(literal) => QueueMove::Enqueue(Event {
+                origin: Origin::Goal {
+                    instance: self.top.id,
+                    state: self.top.state,
+                    branch: self.top.tried,
+                },
+                kind: self.branch.kind,
+                literal,
+                failed: 0,
+            }),
+            _ => QueueMove::Keep,
+        }
     }
 }
 
@@ -107,20 +120,28 @@ impl Turn<'_> {
     fn attempt(&self, branch: Branch) -> Step
         ensures { TriesBranch self.now.beliefs self.now.place self.now.stack branch result }
     {
-        let x = self.stack.top;
-        let height = stacks::depth_of(self.stack) + 1;
-        let trial = tries::attempt(self.beliefs, height, x.env, branch);
-        let top = top_after(x, branch, &trial);
-        let answer = answer_to(x, branch, &trial);
-        let queue = queue_after(x, branch, &trial);
-        let next = Some(Stack { top, ..self.stack });
-        ends::ended(self.place, next, answer, trial.altered, queue)
+        let top = self.stack.top;
+        let height = self.stack.depth() + 1;
+        let trial = &Start {
+            beliefs: &self.beliefs,
+            height,
+            env: top.env,
+        }
+        .attempt(branch);
+        let tried = Tried { top, branch, trial };
+        let next = Stack {
+            top: tried.top_after(),
+            ..self.stack
+        };
+        let (answer, queue) = (tried.answer_to(), tried.queue_after());
+        ends::ended(self.place, Some(next), answer, trial.altered, queue)
     }
 
     // What the top does at its turn.
     pub(crate) fn step(&self) -> Step
         ensures { Turns self.now.library.now self.now.beliefs self.now.place self.now.stack result }
     {
+        // A `match`: in the place of a decision, which is a value, a step to run would be a function pointer or a boxed closure.
         let decision = decision::next_move(self.library, self.beliefs, self.stack.top);
         match decision {
             Decision::Fail => self.end(Ending::Failure),

@@ -3,15 +3,16 @@ use Prim.Native.Nat.{ℕ, ◌+◌, ◌-◌, ◌<◌, ◌≤◌}
 use native.Mathlib.Numerals.{add-one}
 use native.Mathlib.Omega.{arith}
 use mathlib.Core.Path.{◌≡◌, refl, ap, sym, ◌∙◌}
-use mathlib.Core.Bool.{Bool, true, false, not, ◌&&◌, and-false}
+use mathlib.Core.Bool.{Bool, true, false, cond, not, ◌&&◌, and-false}
 use mathlib.Core.List.{List, [], ◌∷◌}
-use lib.ListN.{length, drop, get_or, length-take, drop_of_length-le}
+use lib.ListN.{length, drop, set, get_or, length-take, drop_of_length-le}
 use lib.Seq.{drop-cons}
 use lib.Dec.{ltb}
 use borrow.Author.Tests.{lt-ltb, le-ltb, ltb-true, ltb-false}
 use Rattle.std.specs.List.{list_any, list_all}
 use Rattle.lists.specs.Search.{distinct}
 use Rattle.lists.specs.Gap.{close_gap}
+use Rattle.lists.specs.Row.{in_use}
 use Rattle.lists.proofs.BoolLaws.{by_cases, both_ways}
 use Rattle.std.specs.Prelude.{None, Some}
 use Rattle.std.specs.List as std
@@ -24,7 +25,7 @@ use Rattle.belief.specs.declared.Beliefs.{Beliefs}
 use Rattle.belief.specs.declared.Effect.TheVariants.{Impossible, Changed}
 use Rattle.belief.specs.declared.Applied.{Applied}
 use Rattle.belief.specs.Beliefs.{most_beliefs, size, view, holds, are_sound}
-use Rattle.belief.specs.Table.{over, unchanged, append, add, remove}
+use Rattle.belief.specs.Table.{over, unchanged, add, remove}
 
 pub length-view : (b : Beliefs) → length b.items ≡ 64 → length (view b) ≡ size b
 length-view b len = length-take (size b) b.items ∙ omega arith
@@ -48,26 +49,34 @@ module _ (b : Beliefs) (l : Literal) where
   unfolding remove holds
   remove_absent h = rw (any-position (same l) (view b), le-ltb _ _ (position_none (same l) (view b) h))
 
-  pub remove_held : (place : ℕ) → Some place ≡ std.position (same l) (view b) → (closed : Beliefs)
-      → closed ≡ record { items = close_gap place (size b - 1) b.items; count = size b - 1 } → ◌≡◌ {A = Applied} (record { table = closed; effect = Changed }) (remove b l)
+  -- the gap is closed
+  pub remove_held : (place : ℕ) → Some place ≡ std.position (same l) (view b) → (items : List Literal) (count : ℕ) → length b.items ≡ 64
+      → items ≡ cond (ltb place (in_use b.count b.items)) (close_gap place (in_use b.count b.items - 1) b.items) b.items
+      → count ≡ cond (ltb place (in_use b.count b.items)) (in_use b.count b.items - 1) b.count
+      → ◌≡◌ {A = Applied} (record { table = record { items = items; count = count }; effect = Changed }) (remove b l)
   unfolding remove holds
-  remove_held place h closed q =
+  remove_held place h items count len p q =
       let (e, low) = position_some (same l) (view b) place h in
+      let there : place < size b = omega (arith, low, length-view b len) in
       let held : list_any (same l) (view b) ≡ true = any-position (same l) (view b) ∙ lt-ltb _ _ (rw e at low) in
-      rw (q, held, e)
+      rw (p, q, len, lt-ltb place (size b) there, held, e)
 
   pub add_held : holds (view b) l ≡ true → unchanged b ≡ add b l
   unfolding add
   add_held h = rw h
 
   module _ (without : Applied) (e : without ≡ remove b (opposite l)) (new : holds (view b) l ≡ false) where
-    pub add-full : 64 ≤ without.table.count → ◌≡◌ {A = Applied} (record { table = b; effect = Impossible }) (add b l)
+    pub add_full : 64 ≤ without.table.count → ◌≡◌ {A = Applied} (record { table = b; effect = Impossible }) (add b l)
     unfolding add
-    add-full k = rw (new, ← e, le-ltb without.table.count 64 k)
+    add_full k = rw (new, ← e, le-ltb without.table.count 64 k)
 
-    pub add_last : without.table.count < 64 → ◌≡◌ {A = Applied} (record { table = append without.table l; effect = over without.effect }) (add b l)
+    -- the literal is appended
+    pub add_last : (items : List Literal) (count : ℕ) → length without.table.items ≡ 64 → without.table.count < 64
+        → items ≡ cond (ltb without.table.count (length without.table.items)) (set without.table.items without.table.count l) without.table.items
+        → count ≡ cond (ltb without.table.count (length without.table.items)) (without.table.count + 1) without.table.count
+        → ◌≡◌ {A = Applied} (record { table = record { items = items; count = count }; effect = over without.effect }) (add b l)
     unfolding add
-    add_last k = rw (new, ← e, lt-ltb without.table.count 64 k)
+    add_last items count len k p q = rw (p, q, len, lt-ltb without.table.count 64 k) (rw (new, ← e, lt-ltb without.table.count 64 k))
 
 -- ---- The rules, one literal at a time
 

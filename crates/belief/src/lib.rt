@@ -14,14 +14,15 @@ use literal::Literal;
 pub const MOST_BELIEFS: usize = 64;
 
 // The beliefs are the first `count` items, oldest first; the other places are no part of the table.
-// An array with a count, since memory is fixed.
+// An array with a count: memory is fixed, and the kit's ArrayVec is no Copy.
 #[derive(Clone, Copy)]
 pub struct Beliefs {
     pub items: [Literal; MOST_BELIEFS],
     pub count: usize,
 }
 
-// A change of the beliefs: the literal is removed, or else added. A struct, as document 01 names it ("a slice of change structs").
+// A change of the beliefs: the literal is removed, or else added. A struct, as document 01 names it ("a slice of change structs"),
+// so a flag: an enum of two cases with a literal each would be none.
 #[derive(Clone, Copy)]
 pub struct Change {
     pub removes: bool,
@@ -56,32 +57,6 @@ pub struct Applied {
     pub effect: Effect,
 }
 
-impl Beliefs {
-    // The beliefs, oldest first.
-    pub fn as_slice(&self) -> &[Literal]
-        ensures { result.now ≡ view self.now }
-    {
-        &self.items[..self.count.min(MOST_BELIEFS)]
-    }
-
-    // The gap is closed within the table: the items behind it, up to the last of n, move down by one.
-    fn closed(mut self, gap: usize, n: usize) -> Beliefs
-        requires { (gap < n) × (n ≤ 64) }
-        ensures { result ≡ record { items = close_gap gap (n - 1) self.items; count = n - 1 } }
-    {
-        self.items.copy_within(gap + 1..n, gap);
-        self.count = n - 1;
-        self
-    }
-}
-
-// How many places are in use.
-pub fn size_of(b: Beliefs) -> usize
-    ensures { result ≡ size b }
-{
-    b.count.min(MOST_BELIEFS)
-}
-
 // Whether the literal is one of them.
 fn is_among(l: Literal, beliefs: &[Literal]) -> bool
     ensures { result ≡ list_any (same l) beliefs.now }
@@ -89,82 +64,23 @@ fn is_among(l: Literal, beliefs: &[Literal]) -> bool
     beliefs.contains(&l)
 }
 
-// Whether the literal is a belief.
-#[tactic(auto, unfolding(crate::specs::Beliefs::holds))]
-pub fn is_held(b: Beliefs, l: Literal) -> bool
-    ensures { result ≡ holds (view b) l }
-{
-    is_among(l, b.as_slice())
-}
-
-// Whether an add of the literal fits: it is held, or takes out its opposite, or finds fewer than 64.
-#[tactic(auto, unfolding(crate::specs::Beliefs::fits))]
-pub fn has_room(b: Beliefs, l: Literal) -> bool
-    ensures { result ≡ fits (view b) l }
-{
-    is_held(b, l) || is_held(b, literal::opposite_of(l)) || b.count < MOST_BELIEFS
-}
-
 // The place of the literal among the beliefs.
 #[tactic(auto, unfolding(literal::specs::Literal::same))]
-fn place_of(beliefs: &[Literal], l: Literal) -> Option<usize>
+fn place_of(l: Literal, beliefs: &[Literal]) -> Option<usize>
     ensures { result ≡ position (same l) beliefs.now }
 {
     beliefs.iter().position(|held| l == *held)
-}
-
-// The table without the literal; the others keep their order.
-pub fn removed(b: Beliefs, l: Literal) -> Applied
-    ensures { result ≡ remove b l }
-{
-    let Some(place) = place_of(b.as_slice(), l) else {
-        return Applied {
-            table: b,
-            effect: Effect::Nothing,
-        };
-    };
-    Applied {
-        table: b.closed(place, size_of(b)),
-        effect: Effect::Changed,
-    }
-}
-
-// The table with the literal: last where it is new and there is room once its opposite is taken out.
-pub fn added(b: Beliefs, l: Literal) -> Applied
-    ensures { result ≡ add b l }
-{
-    if is_held(b, l) {
-        return Applied {
-            table: b,
-            effect: Effect::Nothing,
-        };
-    }
-    let other = literal::opposite_of(l);
-    let without = removed(b, other);
-    let mut next = without.table;
-    let n = next.count;
-    if MOST_BELIEFS <= n {
-        return Applied {
-            table: b,
-            effect: Effect::Impossible,
-        };
-    }
-    next.items[n] = l;
-    next.count = n + 1;
-    Applied {
-        table: next,
-        effect: without.effect.over(),
-    }
 }
 
 // Whether the literal is ground, and no later one is the same or its opposite.
 fn agrees(l: Literal, later: &[Literal]) -> bool
     ensures { result ≡ (is_ground l && (not (list_any (same l) later.now) && not (list_any (opposed l) later.now))) }
 {
-    literal::is_ground(l) && !is_among(l, later) && !is_among(literal::opposite_of(l), later)
+    l.is_ground() && !is_among(l, later) && !is_among(l.opposite(), later)
 }
 
 // Whether the literals are ground and all different, with no opposites.
+#[tactic(auto, using(crate::proofs::TableSteps::sound_end))]
 fn are_sound(beliefs: &[Literal]) -> bool
     ensures { result ≡ are_sound beliefs.now }
 {
@@ -176,10 +92,89 @@ fn are_sound(beliefs: &[Literal]) -> bool
     true
 }
 
-// The rules for beliefs: at most 64, all ground, all different, no opposites.
-#[tactic(auto, unfolding(crate::specs::Table::is_table))]
-pub fn is_table(b: Beliefs) -> bool
-    ensures { result ≡ is_table b }
-{
-    b.count <= MOST_BELIEFS && are_sound(b.as_slice())
+impl Beliefs {
+    // The beliefs, oldest first.
+    pub fn as_slice(&self) -> &[Literal]
+        ensures { result.now ≡ view self.now }
+    {
+        &self.items[..self.size()]
+    }
+
+    // How many places are in use.
+    pub fn size(&self) -> usize
+        ensures { result ≡ size self.now }
+    {
+        self.count.min(MOST_BELIEFS)
+    }
+
+    // Whether the literal is a belief.
+    #[tactic(auto, unfolding(crate::specs::Beliefs::holds))]
+    pub fn holds(&self, l: Literal) -> bool
+        ensures { result ≡ holds (view self.now) l }
+    {
+        is_among(l, self.as_slice())
+    }
+
+    // Whether an add of the literal fits: it is held, or takes out its opposite, or finds fewer than 64.
+    #[tactic(auto, unfolding(crate::specs::Beliefs::fits))]
+    pub fn has_room(&self, l: Literal) -> bool
+        ensures { result ≡ fits (view self.now) l }
+    {
+        self.holds(l) || self.holds(l.opposite()) || self.count < MOST_BELIEFS
+    }
+
+    // The table without the literal; the others keep their order.
+    #[tactic(auto, using(crate::proofs::TableSteps::remove_absent))]
+    pub fn removed(self, l: Literal) -> Applied
+        ensures { result ≡ remove self l }
+    {
+        let Some(place) = place_of(l, self.as_slice()) else {
+            return Applied {
+                table: self,
+                effect: Effect::Nothing,
+            };
+        };
+        let mut table = self;
+        table.count = lists::take_out(&mut table.items, self.count, place);
+        Applied {
+            table,
+            effect: Effect::Changed,
+        }
+    }
+
+    // The table with the literal: last where it is new and there is room once its opposite is taken out.
+    #[tactic(auto, using(crate::proofs::TableSteps::add_held, crate::proofs::TableSteps::add_full, crate::proofs::TableSteps::add_last))]
+    pub fn added(self, l: Literal) -> Applied
+        ensures { result ≡ add self l }
+    {
+        if self.holds(l) {
+            return Applied {
+                table: self,
+                effect: Effect::Nothing,
+            };
+        }
+        let other = l.opposite();
+        let without = self.removed(other);
+        let mut next = without.table;
+        let n = next.count;
+        if MOST_BELIEFS <= n {
+            return Applied {
+                table: self,
+                effect: Effect::Impossible,
+            };
+        }
+        next.count = lists::append(&mut next.items, n, l);
+        Applied {
+            table: next,
+            effect: without.effect.over(),
+        }
+    }
+
+    // The rules for beliefs: at most 64, all ground, all different, no opposites.
+    #[tactic(auto, unfolding(crate::specs::Table::is_table))]
+    pub fn is_table(&self) -> bool
+        ensures { result ≡ is_table self.now }
+    {
+        self.count <= MOST_BELIEFS && are_sound(self.as_slice())
+    }
 }

@@ -19,8 +19,9 @@ use Rattle.model.specs.State.{most_number, most_stacks, Intention}
 use Rattle.model.specs.declared.Instance.{Instance}
 use Rattle.model.specs.Live.{jobs_on, jobs_of, live}
 use Rattle.model.specs.WellFormed.{is_well_formed, are_events, is_instance, are_instances, is_stack}
+use Rattle.state.specs.declared.Stack.{Stack}
 use Rattle.state.specs.declared.State.{State}
-use Rattle.state.specs.View.{view_state, stacked_of, view_stacks}
+use Rattle.state.specs.View.{view_stack, view_state, stacked_of, view_stacks}
 use Rattle.jobs.proofs.FlatLaws.{live-few}
 use Rattle.formed.proofs.WellFormedLaws.{test_parts}
 use Rattle.load.specs.declared.Agent.{Agent}
@@ -91,6 +92,11 @@ boards_differ a b f g same = lines_same (rows_of_agent a) (rows_of_agent b) (row
 -- eight stacks of eight
 pub lines-few : (s : State) → length (live (view_stacks s)) ≤ 64
 lines-few s = omega (arith, live-few (take (stacked_of s) s.stacks), length-take (stacked_of s) s.stacks)
+
+-- the live instances of the stacks in use are the state's
+pub lines-counted : (s : State) {stacks : List Stack} {lines : ℕ} → stacks ≡ take (stacked_of s) s.stacks
+    → lines ≡ length (live (map view_stack stacks)) → lines ≡ length (live (view_stacks s))
+lines-counted s e counted = counted ∙ ap (λ (stacks : List Stack). length (live (map view_stack stacks))) e
 
 -- a buffer for the longest board is never too short
 pub room_enough : (a : Agent) (room : ℕ) → is_well_formed_agent a ≡ true → most_board ≤ room → board_refusal a room ≡ 0

@@ -6,7 +6,7 @@ use mathlib.Core.List.{List, [], ◌∷◌, ◌++◌, append_assoc}
 use mathlib.Core.Logic.{⊎_elim}
 use lib.ListN.{length, length-append, drop, length-drop, replicate, length-replicate}
 use lib.Seq.{drop-append-le, drop-length}
-use borrow.Author.Tests.{eq-eqb, ne_eqb, lt-ltb, le-ltb}
+use borrow.Author.Tests.{ne_eqb, lt-ltb, le-ltb}
 use Rattle.model.specs.declared.Status.{Status}
 use Rattle.printing.specs.Decimal.{decimal, last_digit}
 use Rattle.printing.proofs.DecimalLaws.{side, decimal_small, decimal_more}
@@ -63,9 +63,6 @@ cells-none (suc width) = ap (λ (l : List ℕ). l ++ (32 ∷ [])) (cells-none wi
 pub cell-some : (n : ℕ) → (n ≡ 0 → ⊥) → last_digit n ≡ cell n
 cell-some n h = rw (ne_eqb n 0 h)
 
-pub cell-none : (n : ℕ) → n ≡ 0 → 32 ≡ cell n
-cell-none n h = rw (eq-eqb n 0 h)
-
 one_digit : (width n : ℕ) → n < 10 → aligned (number (suc width) n) ≡ cells width (n / 10) ++ (last_digit n ∷ [])
 unfolding aligned
 one_digit width n small =
@@ -114,10 +111,10 @@ unfolding cells
 more_cells width less left one_more before one same =
     rw one_more (written (ap (λ (c : ℕ). cells less (left / 10) ++ (c ∷ [])) same) (widen (omega arith) (then before one)))
 
-pub whole-number : {first middle last : List ℕ} {at next end byte : ℕ} (width less n : ℕ) → width ≡ suc less
+pub whole_number : {first middle last : List ℕ} {at next end byte : ℕ} (width less n : ℕ) → width ≡ suc less
     → Wrote less first middle at next (cells less (n / 10)) → Wrote 1 middle last next end (byte ∷ []) → byte ≡ last_digit n
     → Wrote width first last at end (aligned (number width n))
-whole-number width less n one_more before one same =
+whole_number width less n one_more before one same =
     rw one_more (written (ap (λ (c : ℕ). cells less (n / 10) ++ (c ∷ [])) same ∙ number-cells less n) (widen (omega arith) (then before one)))
 
 -- ---- A status
@@ -128,9 +125,12 @@ status_text status same = ap (λ (c : ℕ). 32 ∷ c ∷ []) same
 
 -- ---- An entry
 
-pub entry-bound : (term : ℕ) → term < 65528 → after (number 5 term) ≡ after (entry term)
-entry-bound term low = rw (lt-ltb term 65528 low)
+pub entry_bound : (term : ℕ) → term < 65528 → after (number 5 term) ≡ after (entry term)
+entry_bound term low = rw (lt-ltb term 65528 low)
 
 pub entry_unbound : (term : ℕ) → 65528 ≤ term → 32 ∷ 32 ∷ 32 ∷ 32 ∷ 32 ∷ 45 ∷ [] ≡ after (entry term)
 unfolding aligned
 entry_unbound term high = rw (le-ltb term 65528 high)
+
+-- an entry, bound or not
+pub ruleset entries = (written, entry_bound, entry_unbound)

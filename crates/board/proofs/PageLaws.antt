@@ -128,9 +128,9 @@ module _ (s : State) (i : ℕ) (long : length s.stacks ≡ 8) (low : i < stacked
   deep : length (view_stack stack).below ≡ depth_of stack
   deep = length-down (depth_of stack) stack.below
 
-  pub stack-room : {o room : ℕ} → o ≤ 0 + line_bytes * length (rows_of (take i (view_stacks s))) → line_bytes * length (rows_of (view_stacks s)) ≤ room
+  pub stack_room : {o room : ℕ} → o ≤ 0 + line_bytes * length (rows_of (take i (view_stacks s))) → line_bytes * length (rows_of (view_stacks s)) ≤ room
       → o + line_bytes * (depth_of stack + 1) ≤ room
-  stack-room p q = omega (arith, p, q, deep, room_left (view_stacks s) i (view_stack no_stack) (view_stack stack) (stack_at_lem s i no_stack low) there)
+  stack_room p q = omega (arith, p, q, deep, room_left (view_stacks s) i (view_stack no_stack) (view_stack stack) (stack_at_lem s i no_stack low) there)
 
   pub stack_more : {first middle last : List ℕ} {o p : ℕ}
       → Wrote (line_bytes * length (rows_of (take i (view_stacks s)))) first middle 0 o (page_of (take i (view_stacks s)))
@@ -139,10 +139,10 @@ module _ (s : State) (i : ℕ) (long : length s.stacks ≡ 8) (low : i < stacked
   stack_more done one =
       next_stack_lem (view_stacks s) i (view_stack no_stack) (view_stack stack) (stack_at_lem s i no_stack low) there done (widen (omega (arith, deep)) one)
 
-pub all-stacks : {first last : List ℕ} {o : ℕ} (s : State) (n i : ℕ) → length s.stacks ≡ 8 → n ≡ stacked_of s → n ≤ i
+pub all_stacks : {first last : List ℕ} {o : ℕ} (s : State) (n i : ℕ) → length s.stacks ≡ 8 → n ≡ stacked_of s → n ≤ i
     → line_bytes * length (rows_of (view_stacks s)) ≤ length first
     → Wrote (line_bytes * length (rows_of (take i (view_stacks s)))) first last 0 o (page_of (take i (view_stacks s)))
     → Wrote (length first) first last 0 o (page_of (view_stacks s))
-all-stacks s n i long same past room done =
+all_stacks s n i long same past room done =
     let whole : take i (view_stacks s) ≡ view_stacks s = take_all i (view_stacks s) (omega (arith, length-stacks s long, same)) in
     written (ap page_of whole) (widen (omega (arith, ap (λ (l : List Intention). length (rows_of l)) whole, room)) done)

@@ -24,7 +24,7 @@ pub fn board(a: Agent, out: &mut [u8]) -> Result<usize, Refusal>
     if !is_well_formed(&a.library, a.length, s) {
         return Err(Refusal::NotFormed);
     }
-    let lines = live_count(&s);
+    let lines = live_count(s.standing());
     if out.len() < LINE_BYTES * lines {
         return Err(Refusal::BoardRoom);
     }

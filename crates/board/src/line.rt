@@ -23,6 +23,8 @@ const UNBOUND: [u8; 6] = *b"     -";
 // How many bytes a line has: 72 characters and a newline.
 pub(crate) const LINE_BYTES: usize = 73;
 
+// Each part asks for room for its own length: that two or three have the same length is chance, and no one fact of theirs.
+
 // The number of the stack and the height on it.
 fn put_place(out: &mut [u8], at: usize, stack: u32, height: u32) -> usize
     requires { at + 3 ≤ length out.old }
@@ -43,6 +45,7 @@ fn letter_of(status: Status) -> u8
 }
 
 // A space and the letter of a status.
+#[tactic(auto, using(writing::proofs::WritingLaws::then, writing::proofs::WritingLaws::written, crate::proofs::ColumnLaws::status_text))]
 fn put_status(out: &mut [u8], at: usize, status: Status) -> usize
     requires { at + 2 ≤ length out.old }
     ensures { Wrote 2 out.old out.new at result (after (letter status)) }
@@ -77,6 +80,7 @@ fn put_unbound(out: &mut [u8], at: usize) -> usize
 }
 
 // A space and a variable's entry.
+#[tactic(auto, using(crate::proofs::ColumnLaws::entries))]
 fn put_entry(out: &mut [u8], at: usize, term: u16) -> usize
     requires { at + 6 ≤ length out.old }
     ensures { Wrote 6 out.old out.new at result (after (entry term)) }

@@ -34,7 +34,7 @@ pub(crate) fn save_image<R: Files + Clock>(
     agent: Agent,
     out: &mut [u8],
 ) -> Result<(), Failed> {
-    let size = image::save::save(agent, out).map_err(|_| not_formed())?;
+    let size = image::save::save(&agent, out).map_err(|_| not_formed())?;
     let image = out.get(..size).ok_or(not_formed())?;
     replace_image(rt, image)
 }

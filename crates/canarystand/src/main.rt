@@ -11,95 +11,93 @@ mod words; // the words behind the program's name
 
 use command::Mode;
 use host::Host;
-use lines::answer_all;
 use std::rt::{Clock, Files};
-use stop::Stop;
+use stop::{Failed, Stop};
+use transfer::BUFFER;
 
-// How many bytes a buffer has: more than any library, image or board.
-const BUFFER: usize = 65536;
-
-// What is read, and what is written.
+// The program at work: what it has of its host, what is read, and what is written.
 #[derive(Drop)]
-struct Buffers {
+struct Program<'a, R> {
+    host: Host<'a, R>,
     input: [u8; BUFFER],
     out: [u8; BUFFER],
 }
 
-// ---- The modes
+impl<R: Files + Clock> Program<'_, R> {
+    // ---- The modes
 
-fn answer_journal<R: Files + Clock>(host: &Host<'_, R>, buffers: &mut Buffers) -> Result<(), Stop> {
-    let mut agent = start::from_library(host, &mut buffers.input)?;
-    answer_all(host, &mut agent, &mut buffers.input, &mut buffers.out)?;
-    Ok(())
-}
+    fn answer_journal(&mut self) -> Result<(), Stop> {
+        let mut agent = self.host.from_library(&mut self.input)?;
+        self.host
+            .answer_all(&mut agent, &mut self.input, &mut self.out)?;
+        Ok(())
+    }
 
-// As the journal, from image to image. Where the input was not read to its end, or an answer not written, the old image stands:
-// with the stored input it brings the agent back.
-fn answer_shift<R: Files + Clock>(host: &Host<'_, R>, buffers: &mut Buffers) -> Result<(), Stop> {
-    let mut agent = start::from_image(host, &mut buffers.input)?;
-    answer_all(host, &mut agent, &mut buffers.input, &mut buffers.out)?;
-    keep::save_image(host.rt, agent, &mut buffers.out)?;
-    Ok(())
-}
+    // As the journal, from image to image. Where the input was not read to its end, or an answer not written, the old image stands:
+    // with the stored input it brings the agent back.
+    fn answer_shift(&mut self) -> Result<(), Stop> {
+        let mut agent = self.host.from_image(&mut self.input)?;
+        self.host
+            .answer_all(&mut agent, &mut self.input, &mut self.out)?;
+        keep::save_image(self.host.rt, agent, &mut self.out)?;
+        Ok(())
+    }
 
-// The board of the agent that a shift would start with.
-fn answer_board<R: Files + Clock>(host: &Host<'_, R>, buffers: &mut Buffers) -> Result<(), Stop> {
-    let agent = start::from_image(host, &mut buffers.input)?;
-    let size = board::board(agent, &mut buffers.out)?;
-    host.print(&buffers.out[..size])?;
-    Ok(())
-}
+    // The board of the agent that a shift would start with.
+    fn answer_board(&mut self) -> Result<(), Stop> {
+        let agent = self.host.from_image(&mut self.input)?;
+        let size = board::board(agent, &mut self.out)?;
+        self.host.print(&self.out[..size])?;
+        Ok(())
+    }
 
-// After how many lists of answers the plan has just succeeded, and just failed.
-fn answer_endings<R: Files + Clock>(
-    host: &Host<'_, R>,
-    plan: u16,
-    length: u16,
-    buffers: &mut Buffers,
-) -> Result<(), Stop> {
-    let n = start::read_library(host, &mut buffers.input)?;
-    let library = &buffers.input[..n];
-    let counts = endings::endings_of(library, plan as usize, length as usize)?;
-    let m = printing::print_pair(&mut buffers.out, 0, counts.succeeded, counts.failed);
-    host.print(&buffers.out[..m])?;
-    Ok(())
-}
+    // After how many lists of answers the plan has just succeeded, and just failed.
+    fn answer_endings(&mut self, plan: u16, length: u16) -> Result<(), Stop> {
+        let n = self.host.read_library(&mut self.input)?;
+        let library = &self.input[..n];
+        let counts = endings::endings_of(library, plan as usize, length as usize)?;
+        let m = printing::print_pair(&mut self.out, 0, counts.succeeded, counts.failed);
+        self.host.print(&self.out[..m])?;
+        Ok(())
+    }
 
-fn answer_mode<R: Files + Clock>(
-    host: &Host<'_, R>,
-    mode: Option<Mode>,
-    buffers: &mut Buffers,
-) -> Result<(), Stop> {
-    match mode {
-        Some(Mode::Journal) => answer_journal(host, buffers),
-        Some(Mode::Shift) => answer_shift(host, buffers),
-        Some(Mode::Board) => answer_board(host, buffers),
-        Some(Mode::Endings { plan, length }) => answer_endings(host, plan, length, buffers),
-        None => {
-            host.say_usage();
-            Ok(())
+    fn answer_mode(&mut self, mode: Option<Mode>) -> Result<(), Stop> {
+        match mode {
+            Some(Mode::Journal) => self.answer_journal(),
+            Some(Mode::Shift) => self.answer_shift(),
+            Some(Mode::Board) => self.answer_board(),
+            Some(Mode::Endings { plan, length }) => self.answer_endings(plan, length),
+            None => {
+                self.host.say_usage();
+                Ok(())
+            }
+        }
+    }
+
+    // A refusal is printed.
+    fn answer(&mut self, mode: Option<Mode>) -> Result<(), Failed> {
+        match self.answer_mode(mode) {
+            Err(Stop::Refused(refusal)) => self.host.print_refusal(refusal, &mut self.out),
+            Err(Stop::Failed(failed)) => Err(failed),
+            Ok(()) => Ok(()),
         }
     }
 }
 
 fn main(rt: HostRuntime) {
-    let mut buffers = Buffers {
-        input: [0u8; BUFFER],
-        out: [0u8; BUFFER],
-    };
     let host = Host {
         rt: &rt,
         input: rt.stdin(),
         output: rt.stdout(),
         errors: rt.stderr(),
     };
-    let mode = words::asked_mode(&rt);
-    let told = match answer_mode(&host, mode, &mut buffers) {
-        Ok(()) => Ok(()),
-        Err(Stop::Refused(refusal)) => host.print_refusal(refusal, &mut buffers.out),
-        Err(Stop::Failed(failed)) => Err(failed),
+    let mut program = Program {
+        host,
+        input: [0u8; BUFFER],
+        out: [0u8; BUFFER],
     };
-    if let Err(failed) = told {
-        host.say(failed);
+    let mode = words::asked_mode(&rt);
+    if let Err(failed) = program.answer(mode) {
+        program.host.say(failed);
     }
 }

@@ -1,5 +1,5 @@
 // A file replaced by new bytes as a whole.
-use std::fs::{OpenFile, OpenOptions};
+use std::fs::{File, OpenFile};
 use std::io::Write;
 use std::rt::{Clock, Files};
 use std::{fs, io};
@@ -16,18 +16,10 @@ fn sync<C: Clock, F: OpenFile>(clock: &C, file: &F) -> io::Result<()> {
     file.sync_all()
 }
 
-// A file that is opened for writing and made new: a name that is taken is refused, whatever has it.
-fn make_new<R: Files>(rt: &R, path: &str) -> io::Result<R::File> {
-    OpenOptions::new()
-        .write(true)
-        .create_new(true)
-        .open(rt, path)
-}
-
-// A new file with these bytes, synced; one that has the name already loses it.
+// A new file with these bytes, synced; one that has the name already loses it, and a name that is taken again is refused.
 fn write_new<R: Files + Clock>(rt: &R, path: &str, bytes: &[u8]) -> io::Result<()> {
     let _ = fs::remove_file(rt, path);
-    let mut file = make_new(rt, path)?;
+    let mut file = File::create_new(rt, path)?;
     transfer::write_all(rt, &mut file, bytes)?;
     sync(rt, &file)
 }

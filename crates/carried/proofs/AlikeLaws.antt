@@ -108,8 +108,6 @@ same_entry c d r q e f = λ i. entry (e i) (f i)
 pub chains_alike : {a b c d : Agent} {links others : List Link} → Alike a b → Chain a links c → Chain b others d
     → calls_of links ≡ calls_of others → SameEnd links others c d
 chains_alike same Chain.start Chain.start e = record { entries = refl; alike = same }
-chains_alike same Chain.start (Chain.then m k rest) e = let sizes = ap length e in absurd (omega (arith, sizes))
-chains_alike same (Chain.then l h rest) Chain.start e = let sizes = ap length e in absurd (omega (arith, sizes))
 chains_alike {a} {b} same (Chain.then {links = links} l h rest) (Chain.then {links = others} m k more) e =
     let here : l.call ≡ m.call = cc in
     let behind : calls_of links ≡ calls_of others = cc in
@@ -118,3 +116,4 @@ chains_alike {a} {b} same (Chain.then {links = links} l h rest) (Chain.then {lin
     let entries = end.entries in
     let first = same_entry l.call m.call l.given m.given here (same_reply same l.call h other) in
     record { entries = λ i. first i ∷ entries i; alike = end.alike }
+chains_alike same c d e = let sizes = ap length e in absurd (omega (arith, sizes))

@@ -33,12 +33,11 @@ reported-entries (link ∷ links) = ap (λ (changes : List Change). changes_of l
 copied_by : {table end : Beliefs} {answers : List (Result Beliefs Refusal)} (links others : List Link) → entries_of links ≡ entries_of others
     → Copied table links answers end → Copied table others answers end
 copied_by [] [] e Ledger.start = Ledger.start
-copied_by [] (other ∷ others) e Ledger.start = let sizes = ap length e in absurd (omega (arith, sizes))
-copied_by (link ∷ links) [] e (Ledger.then _ answer h copied) = let sizes = ap length e in absurd (omega (arith, sizes))
 copied_by {table} (link ∷ links) (other ∷ others) e (Ledger.then _ answer h copied) =
     let here : entry_of link ≡ entry_of other = cc in
     let behind : entries_of links ≡ entries_of others = cc in
     Ledger.then other answer (h ∙ ap (λ (x : Entry). changed table x.result.changes) here) (copied_by links others behind copied)
+copied_by links others e copied = let sizes = ap length e in absurd (omega (arith, sizes))
 
 agrees-alike : (table : Beliefs) {a b : Agent} → Alike a b → Agrees table a → Agrees table b
 agrees-alike table same agrees = agrees ∙ ap (λ (s : AgentState). s.beliefs) same.state

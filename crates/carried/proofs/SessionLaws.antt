@@ -1,15 +1,13 @@
 -- A journal over several shifts prints what the same input prints in one: the program may be stopped at any line's end, saved and restored.
 use Prim.Native.Nat.{ℕ}
-use native.Mathlib.Omega.{arith}
 use mathlib.Core.Path.{◌≡◌, refl, ap, ap₂, sym, subst, subst⁻¹, ◌∙◌}
 use mathlib.Core.Bool.{Bool, true, cond}
 use Rattle.std.specs.Prelude.{Option, None, Some, Ok}
 use mathlib.Core.List.{List, [], ◌∷◌, ◌++◌, map}
 use lib.Dec.{eqb}
 use lib.ListN.{length, length-map}
-use Rattle.lists.specs.Counts.{count}
+use Rattle.lists.specs.Counts.{count, each}
 use Rattle.lists.proofs.BoolLaws.{by_cases}
-use Rattle.lists.proofs.OptionLaws.{some_equal, none-some}
 use Rattle.library.specs.Layout.{beliefs_of}
 use Rattle.model.specs.State.{Call, Reply, Result, view_result}
 use Rattle.model.specs.Demand3.{Demand3}
@@ -76,26 +74,22 @@ mirrored_journal {a} same (answered {calls = calls} {text = text} j c r h fit) =
 
 -- ---- Two journals of what the same lines say
 
-links_calls : (xs ys : List (Option Link)) → map call_in xs ≡ map call_in ys → calls_of (links_of xs) ≡ calls_of (links_of ys)
-links_calls [] [] e = refl
-links_calls [] (y ∷ ys) e = let sizes = ap length e in absurd (omega (arith, sizes))
-links_calls (x ∷ xs) [] e = let sizes = ap length e in absurd (omega (arith, sizes))
-links_calls (None ∷ xs) (None ∷ ys) e = let behind : map call_in xs ≡ map call_in ys = cc in links_calls xs ys behind
-links_calls (None ∷ xs) (Some y ∷ ys) e = let other : None ≡ Some y.call = cc in none-some other
-links_calls (Some x ∷ xs) (None ∷ ys) e = let other : None ≡ Some x.call = cc in none-some other
-links_calls (Some x ∷ xs) (Some y ∷ ys) e =
-    let here : Some x.call ≡ Some y.call = cc in
-    let call = some_equal here in
-    let behind : map call_in xs ≡ map call_in ys = cc in
-    let more = links_calls xs ys behind in
-    λ i. call i ∷ more i
+-- the call that a line says, if it can be read
+abbrev readable : Option Call → List Call
+readable None = []
+readable (Some call) = call ∷ []
+
+links_readable : (xs : List (Option Link)) → calls_of (links_of xs) ≡ each readable (map call_in xs)
+links_readable [] = refl
+links_readable (None ∷ xs) = links_readable xs
+links_readable (Some x ∷ xs) = ap (λ (calls : List Call). x.call ∷ calls) (links_readable xs)
 
 journals-alike : {a b c : Agent} {calls : List (Option Call)} {text further : List ℕ} → Journal a calls text b → Journal a calls further c
     → Alike b c
 journals-alike {a} j k =
     let s = journal-chain j in
     let t = journal-chain k in
-    (chains_alike (alike_itself a) s.chain t.chain (links_calls s.answers t.answers (s.lines ∙ sym t.lines))).alike
+    (chains_alike (alike_itself a) s.chain t.chain (links_readable s.answers ∙ ap (each readable) (s.lines ∙ sym t.lines) ∙ sym (links_readable t.answers))).alike
 
 -- ---- Sessions over several shifts
 

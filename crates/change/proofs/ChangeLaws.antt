@@ -14,7 +14,7 @@ use Rattle.belief.specs.declared.Change.{Change}
 use Rattle.belief.specs.declared.Applied.{Applied}
 use Rattle.belief.specs.Beliefs.{most_beliefs, view, holds}
 use Rattle.belief.specs.Table.{unchanged, remove, is_table}
-use Rattle.belief.proofs.TableSteps.{add_held, add-full}
+use Rattle.belief.proofs.TableSteps.{add_held, add_full}
 use Rattle.belief.proofs.BeliefLaws.{add_places, remove_places, add-table, remove-table}
 use Rattle.change.specs.Changes.{step_by, step, steps, changed}
 
@@ -32,13 +32,13 @@ module _ (table : Beliefs) (c : Change) where
   unfolding step
   passed_open e = rw e
 
-  pub passed_held : c.removes ≡ false → holds (view table) c.literal ≡ true → step table c ≡ table
+  -- what a ground literal leaves as it is every literal does
+  passed_ground : step_by true c.removes table c.literal ≡ table → step table c ≡ table
   unfolding step
-  passed_held r h = go (is_ground c.literal)
-    where
-      go : (ground : Bool) → step_by ground c.removes table c.literal ≡ table
-      go true = rw r (ap (λ (x : Applied). x.table) (sym (add_held table c.literal h)))
-      go false = refl
+  passed_ground e = by_cases (is_ground c.literal) (λ g. rw g e) (λ g. rw g)
+
+  pub passed_held : c.removes ≡ false → holds (view table) c.literal ≡ true → step table c ≡ table
+  passed_held r h = passed_ground (rw r (ap (λ (x : Applied). x.table) (sym (add_held table c.literal h))))
 
   remove-none : (l : Literal) → holds (view table) l ≡ false → remove table l ≡ unchanged table
   unfolding remove
@@ -46,20 +46,11 @@ module _ (table : Beliefs) (c : Change) where
 
   -- an add that finds 64 beliefs, and takes none out
   pub passed_full : c.removes ≡ false → holds (view table) (opposite c.literal) ≡ false → most_beliefs ≤ table.count → step table c ≡ table
-  unfolding step
-  passed_full r free full = by_cases (holds (view table) c.literal) (passed_held r) (λ new. go new (is_ground c.literal))
-    where
-      go : holds (view table) c.literal ≡ false → (ground : Bool) → step_by ground c.removes table c.literal ≡ table
-      go new true = rw r (ap (λ (x : Applied). x.table) (sym (add-full table c.literal (unchanged table) (sym (remove-none (opposite c.literal) free)) new full)))
-      go new false = refl
+  passed_full r free full = by_cases (holds (view table) c.literal) (passed_held r) (λ new. passed_ground
+      (rw r (ap (λ (x : Applied). x.table) (sym (add_full table c.literal (unchanged table) (sym (remove-none (opposite c.literal) free)) new full)))))
 
   pub passed_absent : c.removes ≡ true → holds (view table) c.literal ≡ false → step table c ≡ table
-  unfolding step
-  passed_absent r h = go (is_ground c.literal)
-    where
-      go : (ground : Bool) → step_by ground c.removes table c.literal ≡ table
-      go true = rw r (ap (λ (x : Applied). x.table) (remove-none c.literal h))
-      go false = refl
+  passed_absent r h = passed_ground (rw r (ap (λ (x : Applied). x.table) (remove-none c.literal h)))
 
 -- ---- What is kept
 

@@ -9,31 +9,34 @@ use belief::{Beliefs, Change};
 use literal::Literal;
 use refusals::Refusal;
 
+// Two functions of one shape, since the change call is to call a covered add or a covered removal by value (docs/DECISIONS.md, form 9).
+
 // The table with the literal; one that is not ground, is held already or finds 64 beliefs is passed over.
 fn with_added(table: Beliefs, new: Literal) -> Beliefs
     ensures { result ≡ step_by (is_ground new) false table new }
 {
-    if !literal::is_ground(new) {
+    if !new.is_ground() {
         return table;
     }
-    belief::added(table, new).table
+    table.added(new).table
 }
 
 // The table without the literal; one that is not ground or is absent is passed over.
 fn with_removed(table: Beliefs, old: Literal) -> Beliefs
     ensures { result ≡ step_by (is_ground old) true table old }
 {
-    if !literal::is_ground(old) {
+    if !old.is_ground() {
         return table;
     }
-    belief::removed(table, old).table
+    table.removed(old).table
 }
 
 // The table after the changes, in order; one that breaks the rules for beliefs is refused.
+#[tactic(auto, using(crate::proofs::StepLaws::steps_next, crate::proofs::StepLaws::steps_done), unfolding(crate::specs::Changes::changed))]
 pub fn change(table: Beliefs, changes: &[Change]) -> Result<Beliefs, Refusal>
     ensures { result ≡ changed table changes.now }
 {
-    if !belief::is_table(table) {
+    if !table.is_table() {
         return Err(Refusal::NotFormed);
     }
     let mut t = table;

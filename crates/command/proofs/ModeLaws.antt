@@ -34,3 +34,6 @@ module _ (name first second : List ℕ) where
   pub other_words : (count : ℕ) → 1 < count → (count ≡ 2 → ⊥) → (count ≡ 4 → ⊥) → None ≡ mode_of (words_of count name first second)
   unfolding words_of
   other_words count h one three = no_such (count - 1) (λ e. omega arith) (λ e. one (omega arith)) (λ e. three (omega arith))
+
+-- by how many words there are
+pub ruleset words = (no_words, one_behind, three_behind, other_words)

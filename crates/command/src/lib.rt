@@ -49,6 +49,7 @@ fn three_words(name: &[u8], first: &[u8], second: &[u8]) -> Option<Mode>
 }
 
 // By how many words there are, the program's own name among them, and the first three behind it; none where they ask for nothing.
+#[tactic(auto, using(crate::proofs::ModeLaws::words))]
 pub fn mode_of(count: usize, name: &[u8], first: &[u8], second: &[u8]) -> Option<Mode>
     ensures { result ≡ mode_of (words_of count name.now first.now second.now) }
 {

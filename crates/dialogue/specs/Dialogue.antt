@@ -9,6 +9,8 @@ use Rattle.load.specs.declared.Agent.{Agent}
 use Rattle.agent.specs.declared.feed.Fed.{Fed}
 use Rattle.agent.specs.Feed.{Feeds}
 use Rattle.dialogue.specs.declared.Dialogue.{Dialogue}
+use Rattle.dialogue.specs.declared.Next.{Next}
+use Rattle.dialogue.specs.declared.Next.TheVariants.{Read, Answer, End}
 
 -- ---- Where it stands
 
@@ -18,12 +20,11 @@ pub record Begins (a : Agent) (r : Dialogue) : Type 0 where
   pub silent : begun r.carry ≡ Some []
   pub at : r.at ≡ 0
   pub wrote : r.wrote ≡ 0
-  pub reads : r.used ≡ true
-  pub goes_on : r.ended ≡ false
+  pub next : r.next ≡ Read
 
 -- another piece is read, and none of it used: what the program around it does on a read
 abbrev pub heard : Dialogue → Dialogue
-heard d = record { agent = d.agent; carry = d.carry; at = 0; wrote = d.wrote; used = false; ended = d.ended }
+heard d = record { agent = d.agent; carry = d.carry; at = 0; wrote = d.wrote; next = Answer }
 
 -- ---- A turn
 
@@ -41,24 +42,31 @@ unfoldable pub chunk_by : Bool → Dialogue → List ℕ → List ℕ
 chunk_by true d piece = closing (at_end (begun d.carry))
 chunk_by false d piece = drop d.at piece
 
--- the dialogue after a feed: another piece is to be read where this one is used up; the input's end is answered where all that it
--- added is read
+-- what is next after a feed of a piece, by whether the piece is used up: another one is to be read, or the rest of this one answered
+unfoldable pub next_in : Bool → Next
+next_in true = Read
+next_in false = Answer
+
+-- and at the input's end, by whether all that it added is read: the end is answered, or is read once more
+unfoldable pub next_at_end : Bool → Next
+next_at_end true = End
+next_at_end false = Read
+
+-- the dialogue after a feed
 unfoldable pub after_by : Bool → Dialogue → List ℕ → Fed → Dialogue
 after_by true d piece fed = record {
   agent = fed.agent;
   carry = fed.carry;
   at = d.at;
   wrote = fed.wrote;
-  used = true;
-  ended = eqb fed.read (length (chunk_by true d piece));
+  next = next_at_end (eqb fed.read (length (chunk_by true d piece)));
 }
 after_by false d piece fed = record {
   agent = fed.agent;
   carry = fed.carry;
   at = d.at + fed.read;
   wrote = fed.wrote;
-  used = leb (length piece) (d.at + fed.read);
-  ended = false;
+  next = next_in (leb (length piece) (d.at + fed.read));
 }
 
 -- a turn is one feed, by the contract of `feed`

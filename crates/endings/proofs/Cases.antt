@@ -1,7 +1,6 @@
 -- Every row of the tables of cases is as it is wanted: by computing.
 use mathlib.Core.Path.{◌≡◌, refl}
 use mathlib.Core.List.{map}
-use Rattle.std.specs.List.{list_any, list_all}
 use Rattle.lists.specs.Search.{distinct}
 use Rattle.literal.specs.Literal.{is_ground, same}
 use Rattle.library.specs.Bytes.{u16_at, items, rows, rows_end}

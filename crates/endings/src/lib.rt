@@ -3,12 +3,12 @@
 
 ghost use Rattle.std.specs.Prelude.{◌≡◌, ◌≤◌, ◌<◌, [], length, get_or};
 ghost use Rattle.refusals.specs.Numbers.{numbered};
-ghost use Rattle.library.specs.Layout.{plan_count, plan_of};
+ghost use Rattle.library.specs.Layout.{plan_count, described};
 ghost use Rattle.accepted.specs.Refusal.{refusal_of};
 ghost use Rattle.endings.specs.Answers.{both_of, endings};
 ghost use Rattle.endings.specs.Endings.{endings_of};
 
-use library::plan::{branch, branch_count};
+use library::plan::PlanRef;
 use refusals::Refusal;
 
 // How many lists of answers there are after which the body has just succeeded, and just failed.
@@ -21,59 +21,64 @@ pub struct Counts {
 fn both(succeeded: u32, failed: u32) -> Counts
     ensures { result ≡ both_of succeeded failed }
 {
-    Counts {
-        succeeded: succeeded,
-        failed: failed,
-    }
+    Counts { succeeded, failed }
 }
 
-// From a state, none of its branches tried.
-#[cycle(from_branch_from_state)]
-fn from_state(library: &[u8], plan: usize, state: usize, n: usize) -> Counts
-    requires accepted { (refusal_of library.now ≡ 0) × (plan < plan_count library.now) }
-    requires state_in_bounds { (state < length (plan_of library.now plan).states) × (n ≤ 15) }
-    ensures { result ≡ endings (plan_of library.now plan).states state 0 n }
-{
-    if branch_count(library, plan, state) == 0 {
-        if n == 0 {
-            return both(1, 0);
-        }
-        return both(0, 0);
-    }
-    from_branch(library, plan, state, 0, n)
+// A plan of an accepted library.
+#[derive(Clone, Copy)]
+struct Body<'a> {
+    plan: PlanRef<'a>,
+    ghost accepted: { (refusal_of plan.library.now ≡ 0) × (plan.number < plan_count plan.library.now) },
 }
 
-// From a state that is no end, the branches before `at` tried.
-#[cycle(from_branch_from_state)]
-fn from_branch(library: &[u8], plan: usize, state: usize, at: usize, n: usize) -> Counts
-    requires accepted { (refusal_of library.now ≡ 0) × (plan < plan_count library.now) }
-    requires state_in_bounds { (state < length (plan_of library.now plan).states) × (n ≤ 15) }
-    requires at_in_bounds { at ≤ length (get_or (plan_of library.now plan).states state []) }
-    requires nonzero { 0 < length (get_or (plan_of library.now plan).states state []) }
-    ensures { result ≡ endings (plan_of library.now plan).states state at n }
-{
-    if branch_count(library, plan, state) as usize <= at {
-        if n == 0 {
-            return both(0, 1);
+impl Body<'_> {
+    // From a state, none of its branches tried.
+    #[cycle(from_branch_from_state)]
+    fn from_state(&self, state: usize, n: usize) -> Counts
+        requires state_in_bounds { (state < length (described self.now.plan).states) × (n ≤ 15) }
+        ensures { result ≡ endings (described self.now.plan).states state 0 n }
+    {
+        if self.plan.branch_count(state) == 0 {
+            if n == 0 {
+                return both(1, 0);
+            }
+            return both(0, 0);
         }
-        return both(0, 0);
+        self.from_branch(state, 0, n)
     }
-    if n == 0 {
-        return both(0, 0);
+
+    // From a state that is no end, the branches before `at` tried.
+    #[cycle(from_branch_from_state)]
+    fn from_branch(&self, state: usize, at: usize, n: usize) -> Counts
+        requires state_in_bounds { (state < length (described self.now.plan).states) × (n ≤ 15) }
+        requires at_in_bounds { at ≤ length (get_or (described self.now.plan).states state []) }
+        requires nonzero { 0 < length (get_or (described self.now.plan).states state []) }
+        ensures { result ≡ endings (described self.now.plan).states state at n }
+    {
+        if self.plan.branch_count(state) as usize <= at {
+            if n == 0 {
+                return both(0, 1);
+            }
+            return both(0, 0);
+        }
+        if n == 0 {
+            return both(0, 0);
+        }
+        let taken = self.plan.branch(state, at);
+        let worked = self.from_state(taken.next as usize, n - 1);
+        let missed = self.from_branch(state, at + 1, n - 1);
+        both(
+            worked.succeeded + missed.succeeded,
+            worked.failed + missed.failed,
+        )
     }
-    let taken = branch(library, plan, state, at);
-    let worked = from_state(library, plan, taken.next as usize, n - 1);
-    let missed = from_branch(library, plan, state, at + 1, n - 1);
-    both(
-        worked.succeeded + missed.succeeded,
-        worked.failed + missed.failed,
-    )
 }
 
 // Lists are of at most this many answers.
 const MOST_ANSWERS: usize = 15;
 
 // How many lists of n answers there are after which the plan's body has just succeeded, and just failed.
+// The plan by library and number, as in the other calls on a library that may be refused.
 #[tactic(auto, unfolding(crate::specs::Endings::endings_of, crate::specs::Endings::endings_refusal))]
 pub fn endings_of(library: &[u8], plan: usize, n: usize) -> Result<Counts, Refusal>
     ensures { numbered result ≡ endings_of library.now plan n }
@@ -82,6 +87,10 @@ pub fn endings_of(library: &[u8], plan: usize, n: usize) -> Result<Counts, Refus
     if MOST_ANSWERS < n {
         return Err(Refusal::LongLists);
     }
-    let counts = from_state(library, plan, 0, n);
-    Ok(counts)
+    let plan = PlanRef {
+        library,
+        number: plan,
+    };
+    let body = Body { plan };
+    Ok(body.from_state(0, n))
 }

@@ -2,8 +2,10 @@
 use Prim.Native.Nat.{ℕ, ◌+◌, ◌*◌, ◌/◌, ◌^◌, ◌<◌, ◌≤◌, min}
 use native.Mathlib.Nat.{div-eq_of_lt, div-lt_iff_lt-mul, one-mul}
 use native.Mathlib.Omega.{arith}
-use mathlib.Core.Path.{◌≡◌, sym, ◌∙◌}
+use mathlib.Core.Path.{◌≡◌, ap, sym, ◌∙◌}
 use mathlib.Core.Bool.{Bool, true, false, not, ◌&&◌, and-false, and-true}
+use mathlib.Core.List.{List}
+use lib.ListN.{length, take, length-take}
 use lib.Dec.{leb, ltb, eqb}
 use lib.Pow.{pow_pos, pow_mono}
 use borrow.Author.Tests.{le-leb, lt-leb, lt-ltb, eq-eqb, ne_eqb, ltb-true, ltb-false}
@@ -14,8 +16,9 @@ use Rattle.model.specs.declared.Instance.{Instance}
 use Rattle.model.specs.Instance.{is_suspended}
 use Rattle.model.specs.WellFormed.{is_stack}
 use Rattle.state.specs.declared.Stack.{Stack}
-use Rattle.state.specs.View.{most_below, down, view_stack}
+use Rattle.state.specs.View.{most_below, depth_of, down, view_stack}
 use Rattle.state.proofs.StackLaws.{length-down}
+use Rattle.formed.proofs.ListLaws.{all-down}
 
 -- ---- An event
 
@@ -40,6 +43,15 @@ shifted_out failed plans =
 -- ---- A stack
 
 module _ (stack : Stack) where
+  -- the instances below the top, in either order
+  pub below_asleep : (below : List Instance) (asleep : Bool) → length below ≡ depth_of stack → stack.depth ≤ 7 → below ≡ take (depth_of stack) stack.below
+      → asleep ≡ list_all (λ (x : Instance). is_suspended x.status) below → list_all (λ (x : Instance). is_suspended x.status) (down stack.depth stack.below) ≡ asleep
+  below_asleep below asleep len fits b a =
+      let e : depth_of stack ≡ stack.depth = omega arith in
+      let long : stack.depth ≤ length stack.below = omega (arith, len, ap length b, length-take (depth_of stack) stack.below) in
+      all-down (λ (x : Instance). is_suspended x.status) stack.depth stack.below long
+      ∙ sym (a ∙ ap (list_all (λ (x : Instance). is_suspended x.status)) (b ∙ ap (λ (n : ℕ). take n stack.below) e))
+
   pub too_deep : 7 < stack.depth → false ≡ (leb stack.depth most_below && is_stack (view_stack stack))
   too_deep h = rw (lt-leb stack.depth 7 h)
 

@@ -11,7 +11,7 @@ use Rattle.std.specs.List.{list_any, list_all}
 use Rattle.lists.specs.Search.{distinct}
 use Rattle.lists.proofs.BoolLaws.{and_parts, and_both}
 use Rattle.lists.proofs.AndLaws.{equal_tests, all_both}
-use Rattle.lists.proofs.LoopLaws.{all-mapped, distinct-mapped}
+use Rattle.lists.proofs.MapLaws.{all-mapped, distinct-mapped}
 use Rattle.belief.specs.declared.Beliefs.{Beliefs}
 use Rattle.belief.specs.Beliefs.{most_beliefs, view, are_beliefs}
 use Rattle.belief.specs.Table.{is_table}

@@ -27,6 +27,8 @@ same_stored_event one two = same_served (job_of one) (job_of two)
 unfoldable pub keeps_rules : Library → State → List Job → Bool
 keeps_rules library s jobs =
     is_table s.beliefs && (list_all is_fit (take (stacked_of s) s.stacks) && (are_events library s.taken (view_queue s)
-    && ((list_all (λ job. is_instance library s.made (job_of job)) jobs && (distinct same_stored_id jobs && distinct same_stored_event jobs))
+    && ((list_all (λ job. is_instance library s.made (job_of job)) jobs
+    && (distinct same_stored_id jobs && distinct same_stored_event jobs))
     && (list_all (λ job. list_any (is_served library (job_of job)) (view_queue s)) jobs
-    && (list_all (λ job. has_goal library (view_queue s) (job_of job)) jobs && list_all (has_poster (map job_of jobs)) (view_queue s))))))
+    && (list_all (λ job. has_goal library (view_queue s) (job_of job)) jobs
+    && list_all (has_poster (map job_of jobs)) (view_queue s))))))

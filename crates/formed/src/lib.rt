@@ -6,11 +6,9 @@ ghost use Rattle.library.specs.Layout.{library_of};
 ghost use Rattle.formed.specs.Stored.{keeps_rules};
 ghost use Rattle.formed.specs.Formed.{is_state_formed, is_formed, is_well_formed_with};
 
-use self::events::are_events;
-use self::instances::are_jobs;
-use self::served::{all_served, have_goals, have_posters};
 use self::stacks::are_stacks;
 use jobs::{Job, live_jobs};
+use model::{Event, Number};
 use state::{MOST_QUEUED, MOST_STACKS, State};
 
 mod events; // events.rt: the rules for the queue
@@ -18,19 +16,35 @@ mod instances; // instances.rt: the rules for each instance, and that no two are
 mod served; // served.rt: who serves what, and which goal is whose
 mod stacks; // stacks.rt: the rules for each stack
 
+// What the rules are tested on: the library, and of the state its numbers, its queue and its live instances.
+#[derive(Clone, Copy)]
+struct Tested<'a> {
+    library: &'a [u8],
+    taken: Number,
+    made: Number,
+    queue: &'a [Event],
+    jobs: &'a [Job],
+}
+
 // Whether the state keeps every rule; `jobs` are its live instances.
 #[tactic(auto, unfolding(crate::specs::Stored::keeps_rules))]
 fn keeps_rules(library: &[u8], s: &State, jobs: &[Job]) -> bool
     ensures { result ≡ keeps_rules (library_of library.now) s.now jobs.now }
 {
-    let queue = s.events();
-    belief::is_table(s.beliefs)
+    let tested = Tested {
+        library,
+        taken: s.taken,
+        made: s.made,
+        queue: s.events(),
+        jobs,
+    };
+    s.beliefs.is_table()
         && are_stacks(s.standing())
-        && are_events(library, s.taken, queue)
-        && are_jobs(library, s.made, jobs)
-        && all_served(library, queue, jobs)
-        && have_goals(library, queue, jobs)
-        && have_posters(queue, jobs)
+        && tested.are_events()
+        && tested.are_jobs()
+        && tested.all_served()
+        && tested.have_goals()
+        && tested.have_posters()
 }
 
 // Whether every count is within its array, and the state that the arrays mean keeps every rule.
@@ -40,7 +54,7 @@ pub fn is_state_formed(library: &[u8], s: State) -> bool
     if MOST_QUEUED < s.queued || MOST_STACKS < s.stacked {
         return false;
     }
-    let live = live_jobs(&s);
+    let live = live_jobs(s.standing());
     keeps_rules(library, &s, live.as_slice())
 }
 

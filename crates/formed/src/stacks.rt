@@ -15,19 +15,18 @@ fn are_suspended(instances: &[Instance]) -> bool
 }
 
 // The count is within its array; all instances below the top are suspended, and of a full stack the top is not.
-fn is_stack(stack: Stack) -> bool
-    ensures { result ≡ (leb stack.depth most_below && is_stack (view_stack stack)) }
+fn is_stack(stack: &Stack) -> bool
+    ensures { result ≡ (leb stack.now.depth most_below && is_stack (view_stack stack.now)) }
 {
     let depth = stack.depth;
     if MOST_BELOW < depth {
         return false;
     }
-    are_suspended(&stack.below[..depth])
-        && (depth < MOST_BELOW || stack.top.status != Status::Suspended)
+    are_suspended(stack.beneath()) && (depth < MOST_BELOW || stack.top.status != Status::Suspended)
 }
 
 pub(crate) fn are_stacks(stacks: &[Stack]) -> bool
     ensures { result ≡ list_all (λ stack. leb stack.depth most_below && is_stack (view_stack stack)) stacks.now }
 {
-    stacks.iter().all(|stack| is_stack(*stack))
+    stacks.iter().all(|stack| is_stack(stack))
 }

@@ -1,18 +1,23 @@
 -- What is written of a list of values is read back.
 use Prim.Native.Nat.{ℕ, zero, suc, ◌+◌, ◌*◌, ◌<◌, ◌≤◌, min}
-use native.Mathlib.Nat.{mul-suc, mul-le-mul_left}
-use native.Mathlib.Numerals.{add-one}
+use native.Mathlib.Nat.{zero-add, mul-suc, mul-le-mul_left}
 use native.Mathlib.Omega.{arith}
 use mathlib.Core.Path.{◌≡◌, refl, ap, ap₂, sym, ◌∙◌, subst⁻¹}
 use mathlib.Core.Bool.{Bool, true}
 use mathlib.Core.List.{List, [], ◌∷◌, ◌++◌, append_assoc}
 use lib.Dec.{lit<}
-use lib.ListN.{length, length-append, take, set}
-use lib.Seq.{take-suc-set}
+use lib.ListN.{length, length-append, take, get_or}
+use lib.Seq.{length-take-le}
+use denote.Param.Members.{Mut}
+use Rattle.std.specs.Fn.{Called}
+use Rattle.std.specs.Array.{IsFromFnResult}
+use Rattle.std.proofs.lemmas.List.{get_or-take, same_lists}
 use Rattle.lists.specs.Counts.{each}
 use Rattle.std.specs.List.{list_all}
 use Rattle.lists.proofs.BoolLaws.{and_parts}
 use Rattle.library.specs.Bytes.{u16_at, items}
+use Rattle.library.proofs.RowLaws.{length-items, get_d_items}
+use Rattle.load.proofs.LoadLaws.{made_each}
 use Rattle.image.specs.Words.{word_size, word_bytes, list_bytes, list_at}
 use Rattle.image.specs.Rows.{row}
 use Rattle.image.proofs.WordLaws.{word_first}
@@ -92,19 +97,29 @@ module _ {A : Type 0} (write : A → List ℕ) (width : ℕ) (good : A → Bool)
       let all_of : width * length xs ≤ width * most = mul-le-mul_left width few in
       omega (arith, length-append (word_bytes (length xs)) (each write xs), each-few xs h, all_of)
 
--- ---- A loop that reads items into an array
+-- ---- Items that are read into an array
+
+-- an array whose places a closure made is the list that has the same at each place
+pub made_list : {F A : Type 0} (g : Mut F (ℕ × Unit {0}) A) (f : F) (xs ys : List A) (made_at : ℕ → A) (n : ℕ)
+    → ((i : ℕ) (y : A) (q : F) → Called g f (i, tt) y q → (q ≡ f) × (y ≡ made_at i)) → IsFromFnResult g f xs n
+    → length ys ≡ n → ((k : ℕ) (d : A) → k < n → get_or ys k d ≡ made_at k) → xs ≡ ys
+made_list g f xs ys made_at n calls made size each =
+    same_lists xs ys (made.long ∙ sym size) (λ k d h.
+    let low : k < n = omega (arith, made.long) in
+    rw zero-add at (made_each g f xs made_at calls n 0 made.each k d low) ∙ sym (each k d low))
 
 module _ {A : Type 0} (read : ℕ → A) (width : ℕ) where
-  items_last : (n at : ℕ) → items read width (suc n) at ≡ items read width n at ++ (read (at + width * n) ∷ [])
-  unfolding items
-  items_last zero at = ap (λ (k : ℕ). read k ∷ []) (omega arith)
-  items_last (suc n) at =
-      let place : at + width + width * n ≡ at + width * suc n = simp mul-suc (omega arith) in
-      ap (λ (xs : List A). read at ∷ xs)
-      (items_last n (at + width) ∙ ap (λ (k : ℕ). items read width n (at + width) ++ (read k ∷ [])) place)
+  pub made_items : {F : Type 0} (g : Mut F (ℕ × Unit {0}) A) (f : F) (xs : List A) (n at : ℕ)
+      → ((i : ℕ) (y : A) (q : F) → Called g f (i, tt) y q → (q ≡ f) × (y ≡ read (at + width * i)))
+      → IsFromFnResult g f xs n → xs ≡ items read width n at
+  made_items g f xs n at calls made =
+      made_list g f xs (items read width n at) (λ (i : ℕ). read (at + width * i)) n calls made (length-items read width n at)
+      (get_d_items read width n at)
 
-  -- one place more is filled
-  pub read_next : (at : ℕ) (xs : List A) (i : ℕ) (x : A) → i < length xs → x ≡ read (at + width * i) → take i xs ≡ items read width i at
-      → take (i + 1) (set xs i x) ≡ items read width (i + 1) at
-  read_next at xs i x h e done =
-      rw (add-one i) (take-suc-set xs i x h ∙ ap₂ (λ (s : List A) (y : A). s ++ (y ∷ [])) done e ∙ sym (items_last i at))
+  -- fewer of them
+  pub fewer_items : (n m at : ℕ) → n ≤ m → take n (items read width m at) ≡ items read width n at
+  fewer_items n m at h =
+      let size : length (take n (items read width m at)) ≡ n = length-take-le n (items read width m at) (omega (arith, length-items read width m at)) in
+      same_lists (take n (items read width m at)) (items read width n at) (size ∙ sym (length-items read width n at)) (λ k d low.
+      let inside : k < n = omega (arith, size) in
+      get_or-take n (items read width m at) k d inside ∙ get_d_items read width m at k d (omega arith) ∙ sym (get_d_items read width n at k d inside))

@@ -31,10 +31,10 @@ module _ (form : Form) (before after : List ℕ) (e : Event) where
   image = before ++ ((words_bytes (event_words e) ++ number) ++ after)
 
   at_words : image ≡ before ++ (words_bytes (event_words e) ++ (number ++ after))
-  at_words = ap (λ (l : List ℕ). before ++ l) (append_assoc (words_bytes (event_words e)) number after)
+  at_words = simp append_assoc
 
   at_number : image ≡ (before ++ words_bytes (event_words e)) ++ (number ++ after)
-  at_number = at_words ∙ sym (append_assoc before (words_bytes (event_words e)) (number ++ after))
+  at_number = simp append_assoc
 
   word : (i : ℕ) → i < 10 → u16_at image (length before + 2 * i) ≡ get_or (event_words e) i 0
   word i h = ap (λ (l : List ℕ). u16_at l (length before + 2 * i)) at_words ∙ word_at before (event_words e) (number ++ after) i h

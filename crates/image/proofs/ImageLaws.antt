@@ -190,12 +190,10 @@ module _ (form : Form) (library : List ℕ) (s : AgentState) where
   at_stacks = at_events ∙ sym (append_assoc before_events events (stacks ++ (counts ++ width)))
 
   at_taken : image ≡ before_counts ++ (number_bytes form s.taken ++ (number_bytes form s.made ++ width))
-  at_taken =
-      at_stacks ∙ sym (append_assoc before_stacks stacks (counts ++ width))
-      ∙ ap (λ (l : List ℕ). before_counts ++ l) (append_assoc (number_bytes form s.taken) (number_bytes form s.made) width)
+  at_taken = simp append_assoc
 
   at_made : image ≡ before_made ++ (number_bytes form s.made ++ width)
-  at_made = at_taken ∙ sym (append_assoc before_counts (number_bytes form s.taken) (number_bytes form s.made ++ width))
+  at_made = simp append_assoc
 
   form_back : form_in image ≡ form
   unfolding form_in

@@ -1,14 +1,13 @@
--- Laws of reading the parts of an image: the library copied byte by byte, and the state from its bodies.
-use Prim.Native.Nat.{ℕ, ◌+◌, ◌-◌, ◌<◌, ◌≤◌, min}
+-- Laws of reading the parts of an image: the library as far as it is there, and the state from its bodies.
+use Prim.Native.Nat.{ℕ, ◌+◌, ◌-◌, ◌<◌, min}
 use native.Mathlib.Omega.{arith}
-use mathlib.Core.Path.{◌≡◌, ap, sym, subst, ◌∙◌}
-use mathlib.Core.List.{List}
+use mathlib.Core.Path.{◌≡◌, ap, ap₂, sym, subst, ◌∙◌}
+use mathlib.Core.List.{List, []}
 use lib.Dec.{leb}
-use lib.ListN.{length, take, drop, length-take, length-drop}
-use lib.Seq.{take_all}
-use borrow.Rule.Slice.PartMut.{put_mid, same_len_mid}
+use lib.ListN.{length, take, drop, length-drop}
 use Rattle.std.specs.List.{slice_range}
-use Rattle.std.proofs.lemmas.Slice.{take-put_mid}
+use Rattle.std.proofs.lemmas.List.{drop_all}
+use lib.Seq.{take_all}
 use borrow.Author.Tests.{leb-true, leb-false}
 use Rattle.lists.proofs.BoolLaws.{by_cases}
 use Rattle.belief.specs.Beliefs.{view}
@@ -26,20 +25,10 @@ use Rattle.image.specs.BeliefImage.{beliefs_at}
 use Rattle.image.specs.EventImage.{event_size, event_at, events_at}
 use Rattle.image.specs.StackImage.{stacks_at}
 use Rattle.image.specs.Image.{contents_size, offset_in, length_in, library_as, state_as}
-use Rattle.image.specs.Reads.{ReadsStacks, size_in, ReadsState}
+use Rattle.image.proofs.CodecLaws.{fewer_items}
+use Rattle.image.specs.Reads.{ReadsStacks, ReadsState}
 
 -- ---- The library
-
--- its bytes, as the code puts them in front of an array
-pub copied_part : (from size : ℕ) (image bytes part : List ℕ) → part ≡ slice_range image from (from + size) → length part ≡ size
-    → take size (put_mid 0 size bytes part) ≡ take size (drop from image)
-copied_part from size image bytes part is long =
-    let n : from + size - from ≡ size = omega arith in
-    take-put_mid 0 size bytes part size (omega (arith, long)) (omega arith) ∙ is ∙ rw n
-
-pub copied_places : (size : ℕ) (bytes part : List ℕ) → length bytes ≡ most_bytes → length part ≡ size → size ≤ most_bytes
-    → length (put_mid 0 size bytes part) ≡ most_bytes
-copied_places size bytes part full long few = same_len_mid 0 size bytes part (rw length-take (omega (arith, long, full))) ∙ full
 
 -- no more can be taken than there are
 pub take-least : (n : ℕ) (l : List ℕ) → take (min n (length l)) l ≡ take n l
@@ -48,14 +37,19 @@ take-least n l =
     (λ h. let low : length l < n = leb-false n (length l) h in let e : min n (length l) ≡ length l = omega arith in ap
     (λ (k : ℕ). take k l) e ∙ take_all (length l) l (omega arith) ∙ sym (take_all n l (omega arith)))
 
-pub library_copied : (form : Form) (image bytes : List ℕ) (size : ℕ) → size ≡ size_in image (contents_size form)
-    → take size bytes ≡ take size (drop (contents_size form) image) → take size bytes ≡ library_as form image
+-- what is taken of it
+pub library_taken : (form : Form) (image rest : List ℕ) (from n : ℕ) → from ≡ contents_size form → rest ≡ slice_range image from (length image)
+    → n ≡ min (min (length_in image 0) most_bytes) (length rest) → take n rest ≡ library_as form image
 unfolding library_as
-library_copied form image bytes size e h =
-    let n : size ≡ min (min (length_in image 0) most_bytes) (length (drop (contents_size form) image)) =
-    e ∙ ap (min (min (length_in image 0) most_bytes)) (sym (length-drop (contents_size form) image)) in
-    h ∙ ap (λ (k : ℕ). take k (drop (contents_size form) image)) n
-    ∙ take-least (min (length_in image 0) most_bytes) (drop (contents_size form) image)
+library_taken form image rest from n begins is e =
+    let all_of : rest ≡ drop (contents_size form) image =
+    is ∙ take_all (length image - from) (drop from image) (omega (arith, length-drop from image)) ∙ ap (λ (k : ℕ). drop k image) begins in
+    ap (λ (k : ℕ). take k rest) e ∙ take-least (min (length_in image 0) most_bytes) rest ∙ ap (take (min (length_in image 0) most_bytes)) all_of
+
+pub library_missing : (form : Form) (image : List ℕ) (from : ℕ) → from ≡ contents_size form → length image < from → [] ≡ library_as form image
+unfolding library_as
+library_missing form image from begins short =
+    sym (ap (take (min (length_in image 0) most_bytes)) (drop_all (contents_size form) image (omega arith)) ∙ take_all (min (length_in image 0) most_bytes) [] (omega arith))
 
 -- ---- The state
 
@@ -63,7 +57,7 @@ pub read-state : (form : Form) (image : List ℕ) (s : State) (b e k c : ℕ) �
     → k ≡ offset_in image 3 → c ≡ offset_in image 4
     → Holds (beliefs_at image b) s.beliefs
     → s.queued ≡ min (u16_at image e) most_queued
-    → take s.queued s.queue ≡ items (event_at form image) (event_size form) s.queued (e + word_size)
+    → s.queue ≡ items (event_at form image) (event_size form) most_queued (e + word_size)
     → ReadsStacks form image k (record { items = s.stacks; count = s.stacked })
     → s.taken ≡ number_at form image c → s.made ≡ number_at form image (c + number_size form) → ReadsState form image s
 unfolding state_as events_at
@@ -74,7 +68,7 @@ read-state form image s b e k c pb pe pk pc beliefs queued queue stacks taken ma
     let low : min s.queued most_queued ≡ s.queued = omega (arith, queued) in
     let vq : view_queue s ≡ items (event_at form image) (event_size form) (min (u16_at image (offset_in image 2)) most_queued)
     (offset_in image 2 + word_size) =
-    ap (λ (n : ℕ). take n s.queue) low ∙ queue ∙ ap (λ (n : ℕ). items (event_at form image) (event_size form) n (e + word_size)) queued
+    ap₂ take low queue ∙ fewer_items (event_at form image) (event_size form) s.queued most_queued (e + word_size) (omega arith) ∙ ap (λ (n : ℕ). items (event_at form image) (event_size form) n (e + word_size)) queued
     ∙ ap (λ (n : ℕ). items (event_at form image) (event_size form) (min (u16_at image n) most_queued) (n + word_size)) pe in
     let few : min s.stacked most_stacks ≡ s.stacked = omega (arith, stacks.few) in
     let vs : view_stacks s ≡ stacks_at form image (offset_in image 3) = rw few stacks.means ∙ ap (stacks_at form image) pk in

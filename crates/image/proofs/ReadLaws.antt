@@ -30,8 +30,9 @@ use Rattle.image.specs.EventImage.{origin_number, origin_of, last_kind, kind_of,
 use Rattle.image.specs.StackImage.{entry_of, entries_at, env_at, instance_fields, instance_size, instance_at, is_storable, is_stack_storable, upward}
 use Rattle.image.specs.StackImage.{stack_fields, depth_at, stack_at, stack_size_at, stacks_at}
 use Rattle.image.specs.Image.{length_in, offset_in, contents_size, image_as, can_hold, form_in, library_as, state_as, library_in, state_in, is_image}
+use Rattle.image.proofs.RowLaws.{length-entries}
 use Rattle.image.proofs.ImageLaws.{Storable, storable_holds, holds_storable, image_again, saved_image}
-use Rattle.image.proofs.Storing.{or_right}
+use Rattle.std.proofs.lemmas.Bool.{or_right}
 
 -- ---- Codes
 
@@ -46,6 +47,13 @@ entry_good variable term =
 -- a number is the one that an event is read with, whatever its origin
 number_of : (code state branch number : ℕ) → origin_number (origin_of code state branch number) ≡ number
 number_of code state branch number = by_cases (eqb code 1) (λ h. rw h refl) (λ h. rw h refl)
+
+-- items that are good wherever they are read
+items-good : {A : Type 0} (good : A → Bool) (read : ℕ → A) (width : ℕ) → ((at : ℕ) → good (read at) ≡ true) → (n at : ℕ)
+    → list_all good (items read width n at) ≡ true
+unfolding items
+items-good good read width each zero at = refl
+items-good good read width each (suc n) at = and_both (good (read at)) _ (each at) (items-good good read width each n (at + width))
 
 module _ (form : Form) (image : List ℕ) where
   -- ---- Numbers
@@ -65,17 +73,7 @@ module _ (form : Form) (image : List ℕ) where
       let number = number_of (u16_at image at) (u16_at image (at + 2)) (u16_at image (at + 4)) (number_at form image (at + event_fields)) in
       and_both (is_kind (event_at form image at)) _ (kind_low (u16_at image (at + 6))) (rw number (number_read (at + event_fields)))
 
-  events-read : (n at : ℕ) → list_all (is_event_storable form) (items (event_at form image) (event_size form) n at) ≡ true
-  unfolding items
-  events-read zero at = refl
-  events-read (suc n) at = and_both (is_event_storable form (event_at form image at)) _ (event_read at) (events-read n (at + event_size form))
-
   -- ---- Environments and instances
-
-  entries-length : (variable n at : ℕ) → length (entries_at image variable n at) ≡ n
-  unfolding entries_at
-  entries-length variable zero at = refl
-  entries-length variable (suc n) at = ap suc (entries-length (suc variable) n (at + word_size))
 
   entries-read : (variable n at : ℕ) → are_entries variable (entries_at image variable n at) ≡ true
   unfolding entries_at are_entries
@@ -87,18 +85,12 @@ module _ (form : Form) (image : List ℕ) where
   env_read : (at : ℕ) → is_env (env_at image at) ≡ true
   unfolding is_env env_at
   env_read at =
-      and_both (eqb (length (entries_at image first_variable 8 at)) 8) _ (eq-eqb _ 8 (entries-length first_variable 8 at))
+      and_both (eqb (length (entries_at image first_variable 8 at)) 8) _ (eq-eqb _ 8 (length-entries image first_variable 8 at))
       (entries-read first_variable 8 at)
 
   instance-read : (at : ℕ) → is_storable form (instance_at form image at) ≡ true
   unfolding instance_at
   instance-read at = and_both (is_env (env_at image (at + 8))) _ (env_read (at + 8)) (number_read (at + instance_fields))
-
-  instances-read : (n at : ℕ) → list_all (is_storable form) (items (instance_at form image) (instance_size form) n at) ≡ true
-  unfolding items
-  instances-read zero at = refl
-  instances-read (suc n) at =
-      and_both (is_storable form (instance_at form image at)) _ (instance-read at) (instances-read n (at + instance_size form))
 
   -- ---- Stacks
 
@@ -111,7 +103,7 @@ module _ (form : Form) (image : List ℕ) where
       let low : length (reverse below) ≤ most_below = omega (arith, many) in
       let lower : list_all (is_storable form) (reverse (reverse below)) ≡ true =
       subst⁻¹ (λ (xs : List Instance). list_all (is_storable form) xs ≡ true) (reverse-reverse below)
-      (instances-read (depth_at image at) (at + stack_fields form)) in
+      (items-good (is_storable form) (instance_at form image) (instance_size form) instance-read (depth_at image at) (at + stack_fields form)) in
       and_both (leb (length (reverse below)) most_below) _ (le-leb _ most_below low)
       (and_both (list_all (is_storable form) (upward (stack_at form image at))) _
       (all-joined (is_storable form) (reverse (reverse below)) ((stack_at form image at).top ∷ []) lower
@@ -148,7 +140,9 @@ module _ (form : Form) (image : List ℕ) where
           length-items (event_at form image) (event_size form) (min (u16_at image (offset_in image 2)) most_queued)
               (offset_in image 2 + word_size),
         );
-    events = events-read (min (u16_at image (offset_in image 2)) most_queued) (offset_in image 2 + word_size);
+    events =
+        items-good (is_event_storable form) (event_at form image) (event_size form) event_read (min (u16_at image (offset_in image 2)) most_queued)
+        (offset_in image 2 + word_size);
     stacked = omega (arith, stacks-length (min (u16_at image (offset_in image 3)) most_stacks) (offset_in image 3 + word_size));
     storable = stacks-read (min (u16_at image (offset_in image 3)) most_stacks) (offset_in image 3 + word_size);
     taken = number_read (offset_in image 4);

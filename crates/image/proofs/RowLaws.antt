@@ -6,13 +6,16 @@ use mathlib.Core.Path.{◌≡◌, refl, ap, ap₂, sym, ◌∙◌}
 use mathlib.Core.Bool.{true}
 use mathlib.Core.List.{List, [], ◌∷◌, ◌++◌, map, map-append, append-nil, reverse, reverse-cons, reverse-reverse}
 use lib.Dec.{leb}
-use lib.ListN.{length, take, get_or, set, length-reverse}
+use lib.ListN.{length, take, get_or, set, length-reverse, length-take}
+use denote.Param.Members.{Mut}
+use Rattle.std.specs.Fn.{Called}
+use Rattle.std.specs.Array.{IsFromFnResult}
 use lib.Seq.{take-suc, take-suc-set, length-take-le}
 use Rattle.lists.specs.Counts.{each}
 use Rattle.std.specs.List.{list_all}
 use Rattle.lists.proofs.TestLaws.{all-joined}
-use Rattle.literal.specs.Literal.{first_variable}
 use Rattle.library.specs.Bytes.{u16_at, items}
+use Rattle.library.proofs.RowLaws.{length-items}
 use Rattle.model.specs.declared.Instance.{Instance}
 use Rattle.model.specs.State.{Intention}
 use Rattle.state.specs.declared.Stack.{Stack}
@@ -25,6 +28,7 @@ use Rattle.image.specs.StackImage.{instance_size, instance_bytes, instance_at, u
 use Rattle.image.specs.StackImage.{stack_fields, stack_size, stack_bytes, depth_at, stack_at, stack_size_at}
 use Rattle.image.specs.Reads.{ReadsStack}
 use Rattle.image.proofs.WordLaws.{each-joined}
+use Rattle.image.proofs.CodecLaws.{fewer_items, made_list}
 
 -- ---- Up and down
 
@@ -46,23 +50,29 @@ pub each_map : {A B : Type 0} (write : B → List ℕ) (f : A → B) (xs : List 
 each_map write f [] = refl
 each_map write f (x ∷ xs) = ap (λ (l : List ℕ). write (f x) ++ l) (each_map write f xs)
 
--- ---- Entries of an environment, read one after the other
+-- ---- Entries of an environment
 
-entries_more : (bytes : List ℕ) (variable n at : ℕ) → entries_at bytes variable (n + 1) at
-    ≡ entries_at bytes variable n at ++ (entry_of (variable + n) (u16_at bytes (at + word_size * n)) ∷ [])
+pub length-entries : (bytes : List ℕ) (variable n at : ℕ) → length (entries_at bytes variable n at) ≡ n
 unfolding entries_at
-entries_more bytes variable zero at = let v : variable + 0 ≡ variable = omega arith in let a : at + word_size * 0 ≡ at = omega arith in rw (v, a)
-entries_more bytes variable (suc n) at =
-    let v : suc variable + n ≡ variable + suc n = omega arith in
-    let a : at + word_size + word_size * n ≡ at + word_size * suc n = omega arith in
-    let s : suc n + 1 ≡ suc (n + 1) = omega arith in
-    rw s (ap (λ (rest : List ℕ). entry_of variable (u16_at bytes at) ∷ rest)
-    (entries_more bytes (suc variable) n (at + word_size) ∙ ap₂ (λ (k o : ℕ). entries_at bytes (suc variable) n (at + word_size) ++ (entry_of k (u16_at bytes o) ∷ [])) v a))
+length-entries bytes variable zero at = refl
+length-entries bytes variable (suc n) at = ap suc (length-entries bytes (suc variable) n (at + word_size))
 
-pub entry_next : (bytes terms : List ℕ) (i term at : ℕ) → i < length terms → term ≡ entry_of (first_variable + i) (u16_at bytes (at + word_size * i))
-    → take i terms ≡ entries_at bytes first_variable i at → take (i + 1) (set terms i term) ≡ entries_at bytes first_variable (i + 1) at
-entry_next bytes terms i term at low is read =
-    rw (add-one i) (take-suc-set terms i term low) ∙ ap₂ (λ (l : List ℕ) (t : ℕ). l ++ (t ∷ [])) read is ∙ sym (entries_more bytes first_variable i at)
+entry_is : (bytes : List ℕ) (variable n at i d : ℕ) → i < n
+    → get_or (entries_at bytes variable n at) i d ≡ entry_of (variable + i) (u16_at bytes (at + word_size * i))
+unfolding entries_at
+entry_is bytes variable zero at i d h = absurd (omega arith)
+entry_is bytes variable (suc n) at zero d h = ap₂ (λ (v o : ℕ). entry_of v (u16_at bytes o)) (omega arith) (omega arith)
+entry_is bytes variable (suc n) at (suc i) d h =
+    entry_is bytes (suc variable) n (at + word_size) i d (omega arith)
+    ∙ ap₂ (λ (v o : ℕ). entry_of v (u16_at bytes o)) (omega arith) (omega arith)
+
+-- an array whose places are read by a closure
+pub made_entries : {F : Type 0} (g : Mut F (ℕ × Unit {0}) ℕ) (f : F) (xs bytes : List ℕ) (variable n at : ℕ)
+    → ((i : ℕ) (y : ℕ) (q : F) → Called g f (i, tt) y q → (q ≡ f) × (y ≡ entry_of (variable + i) (u16_at bytes (at + word_size * i))))
+    → IsFromFnResult g f xs n → xs ≡ entries_at bytes variable n at
+made_entries g f xs bytes variable n at calls made =
+    made_list g f xs (entries_at bytes variable n at) (λ (i : ℕ). entry_of (variable + i) (u16_at bytes (at + word_size * i))) n calls made
+    (length-entries bytes variable n at) (entry_is bytes variable n at)
 
 -- ---- Rows
 
@@ -93,34 +103,35 @@ depths_more xs i x h e done =
 
 -- ---- A stack as it is written and read
 
-pub stack_bytes_lem : (form : Form) (stack : Stack) (n : ℕ) → n ≡ depth_of stack → length stack.below ≡ most_below
-    → word_bytes (n + 1) ++ (number_bytes form stack.external ++
-    (each (instance_bytes form) (take n stack.below) ++ instance_bytes form stack.top))
+pub stack_bytes_lem : (form : Form) (stack : Stack) (below : List Instance) → below ≡ take (depth_of stack) stack.below
+    → length below ≡ depth_of stack → word_bytes (length below + 1) ++ (number_bytes form stack.external ++
+    (each (instance_bytes form) below ++ instance_bytes form stack.top))
     ≡ stack_bytes form (view_stack stack)
 unfolding stack_bytes upward
-stack_bytes_lem form stack n e seven =
+stack_bytes_lem form stack below is size =
     let d = depth_of stack in
-    let low : d ≤ length stack.below = omega arith in
-    let size : n ≡ length (down d stack.below) = e ∙ sym (length-down d stack.below low) in
-    let up : take n stack.below ≡ reverse (down d stack.below) =
-    ap (λ (k : ℕ). take k stack.below) e ∙ sym (down_up d stack.below low) in
-    let all_of : each (instance_bytes form) (take n stack.below) ++ instance_bytes form stack.top ≡ each (instance_bytes form)
+    let low : d ≤ length stack.below = omega (arith, length-take d stack.below, ap length is) in
+    let high : length below ≡ length (down d stack.below) = size ∙ sym (length-down d stack.below low) in
+    let up : below ≡ reverse (down d stack.below) = is ∙ sym (down_up d stack.below low) in
+    let all_of : each (instance_bytes form) below ++ instance_bytes form stack.top ≡ each (instance_bytes form)
     (reverse (down d stack.below) ++ (stack.top ∷ [])) =
     ap₂ (λ (s t : List ℕ). s ++ t) (ap (each (instance_bytes form)) up) (sym (append-nil (instance_bytes form stack.top)))
     ∙ sym (each-joined (instance_bytes form) (reverse (down d stack.below)) (stack.top ∷ [])) in
-    ap₂ (λ (k : ℕ) (t : List ℕ). word_bytes (k + 1) ++ (number_bytes form stack.external ++ t)) size all_of
+    ap₂ (λ (k : ℕ) (t : List ℕ). word_bytes (k + 1) ++ (number_bytes form stack.external ++ t)) high all_of
 
 pub read-stack : (form : Form) (image : List ℕ) (at d external : ℕ) (top : Instance) (below : List Instance) → d ≡ depth_at image at
-    → length below ≡ most_below
     → external ≡ number_at form image (at + word_size) → top ≡ instance_at form image (at + stack_fields form + instance_size form * d)
-    → take d below ≡ items (instance_at form image) (instance_size form) d (at + stack_fields form)
+    → below ≡ items (instance_at form image) (instance_size form) most_below (at + stack_fields form)
     → ReadsStack form image at (record { top = top; below = below; depth = d; external = external })
 unfolding stack_at depth_at
-read-stack form image at d external top below e seven x t b =
+read-stack form image at d external top below e x t b =
     let low : d ≤ most_below = omega arith in
     let full : min d most_below ≡ d = omega arith in
     let here = t ∙ ap (λ (k : ℕ). instance_at form image (at + stack_fields form + instance_size form * k)) e in
-    let read = b ∙ ap (λ (k : ℕ). items (instance_at form image) (instance_size form) k (at + stack_fields form)) e in
+    let seven : length below ≡ most_below = ap length b ∙ length-items (instance_at form image) (instance_size form) most_below (at + stack_fields form) in
+    let read =
+    ap (take d) b ∙ fewer_items (instance_at form image) (instance_size form) d most_below (at + stack_fields form) low
+    ∙ ap (λ (k : ℕ). items (instance_at form image) (instance_size form) k (at + stack_fields form)) e in
     let under = ap (λ (k : ℕ). down k below) full ∙ up_down d below (omega arith) ∙ ap (λ (l : List Instance). reverse l) read in
     record { depth = e; low = low; means = λ i. record { external = x i; top = here i; below = under i } }
 

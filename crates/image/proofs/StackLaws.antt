@@ -3,13 +3,14 @@ use Prim.Native.Nat.{ℕ, suc, ◌+◌, ◌*◌, ◌<◌, ◌≤◌}
 use native.Mathlib.Nat.{add-zero, mul-suc}
 use native.Mathlib.Omega.{arith}
 use mathlib.Core.Path.{◌≡◌, refl, ap, ap₂, sym, ◌∙◌, subst⁻¹}
-use mathlib.Core.Bool.{Bool, true, false, ◌||◌}
+use mathlib.Core.Bool.{true, false, ◌||◌}
 use mathlib.Core.List.{List, [], ◌∷◌, ◌++◌, append_assoc, append-nil, reverse, reverse-reverse}
 use lib.Dec.{eqb, leb, lit<}
 use lib.ListN.{length, length-append, length-reverse, get_or}
 use borrow.Author.Tests.{eqb-true, leb-true}
 use Rattle.lists.specs.Counts.{each}
 use Rattle.std.specs.List.{list_all}
+use Rattle.std.proofs.lemmas.List.Folds.{list_all-append}
 use Rattle.lists.proofs.BoolLaws.{and_parts, by_cases}
 use Rattle.literal.specs.declared.Env.{Env}
 use Rattle.literal.specs.Literal.{first_variable, is_constant}
@@ -139,13 +140,12 @@ length-each form (x ∷ xs) h =
     length-append (instance_bytes form x) (each (instance_bytes form) xs)
     ∙ rw (length-instance form x parts.0, length-each form xs parts.1, mul-suc) (omega arith)
 
--- a test of all of a joined list, of its parts
-all-parts : (test : Instance → Bool) (xs ys : List Instance) → list_all test (xs ++ ys) ≡ true → (list_all test xs ≡ true) × (list_all test ys ≡ true)
-all-parts test [] ys h = (refl, h)
-all-parts test (x ∷ xs) ys h =
-    let parts = and_parts (test x) (list_all test (xs ++ ys)) h in
-    let rest = all-parts test xs ys parts.1 in
-    (rw parts.0 rest.0, rest.1)
+-- the bytes of a stack by what stands before the instances below its top, and before the top
+before_lower : (a b c d e f : List ℕ) → a ++ ((b ++ (c ++ (d ++ e))) ++ f) ≡ (a ++ (b ++ c)) ++ (d ++ (e ++ f))
+before_lower a b c d e f = simp append_assoc
+
+before_last : (a b c d e f : List ℕ) → a ++ ((b ++ (c ++ (d ++ e))) ++ f) ≡ (a ++ (b ++ (c ++ d))) ++ (e ++ f)
+before_last a b c d e f = simp append_assoc
 
 module _ (form : Form) (before after : List ℕ) (stack : Intention) (h : is_stack_storable form stack ≡ true) where
   abbrev height : List ℕ
@@ -174,7 +174,9 @@ module _ (form : Form) (before after : List ℕ) (stack : Intention) (h : is_sta
 
   goods : (list_all (is_storable form) up ≡ true) × (list_all (is_storable form) (stack.top ∷ []) ≡ true)
   unfolding upward
-  goods = all-parts (is_storable form) up (stack.top ∷ []) held.0
+  goods =
+      and_parts (list_all (is_storable form) up) (list_all (is_storable form) (stack.top ∷ []))
+      (sym (list_all-append (is_storable form) up (stack.top ∷ [])) ∙ held.0)
 
   good_top : is_storable form stack.top ≡ true
   good_top = (and_parts (is_storable form stack.top) true goods.1).0
@@ -194,22 +196,16 @@ module _ (form : Form) (before after : List ℕ) (stack : Intention) (h : is_sta
       ∙ ap (λ (l : List ℕ). each (instance_bytes form) up ++ l) (append-nil (instance_bytes form stack.top))
 
   at_below : whole ≡ (before ++ (height ++ number)) ++ (each (instance_bytes form) up ++ (instance_bytes form stack.top ++ after))
+  unfolding stack_bytes
   at_below =
-      let lower = each (instance_bytes form) up in
-      let top = instance_bytes form stack.top in
-      at_height ∙ ap (λ (l : List ℕ). before ++ (height ++ (number ++ (l ++ after)))) split
-      ∙ ap (λ (l : List ℕ). before ++ (height ++ (number ++ l))) (append_assoc lower top after)
-      ∙ ap (λ (l : List ℕ). before ++ l) (sym (append_assoc height number (lower ++ (top ++ after))))
-      ∙ sym (append_assoc before (height ++ number) (lower ++ (top ++ after)))
+      ap (λ (l : List ℕ). before ++ ((height ++ (number ++ l)) ++ after)) split
+      ∙ before_lower before height number (each (instance_bytes form) up) (instance_bytes form stack.top) after
 
   at_top : whole ≡ (before ++ (height ++ (number ++ each (instance_bytes form) up))) ++ (instance_bytes form stack.top ++ after)
+  unfolding stack_bytes
   at_top =
-      let lower = each (instance_bytes form) up in
-      let rest = instance_bytes form stack.top ++ after in
-      at_below ∙ append_assoc before (height ++ number) (lower ++ rest)
-      ∙ ap (λ (l : List ℕ). before ++ l) (append_assoc height number (lower ++ rest)
-      ∙ ap (λ (l : List ℕ). height ++ l) (sym (append_assoc number lower rest)) ∙ sym (append_assoc height (number ++ lower) rest))
-      ∙ sym (append_assoc before (height ++ (number ++ lower)) rest)
+      ap (λ (l : List ℕ). before ++ ((height ++ (number ++ l)) ++ after)) split
+      ∙ before_last before height number (each (instance_bytes form) up) (instance_bytes form stack.top) after
 
   height_at : u16_at whole (length before) ≡ height_of stack
   height_at =

@@ -2,13 +2,16 @@
 -- its room.
 use Prim.Native.Nat.{ℕ, zero, suc, ◌<◌, ◌≤◌}
 use native.Mathlib.Omega.{arith}
-use mathlib.Core.Path.{◌≡◌, refl, sym, ap, subst⁻¹}
+use mathlib.Core.Path.{◌≡◌, refl, sym, ap, subst⁻¹, ◌∙◌}
 use mathlib.Core.Bool.{Bool, true, false, not, ◌&&◌, ◌||◌}
-use mathlib.Core.List.{List, [], ◌∷◌, ◌++◌, reverse, reverse-cons}
+use mathlib.Core.List.{List, [], ◌∷◌, reverse, reverse-cons}
 use lib.Dec.{leb, ltb, eqb}
 use lib.ListN.{length, get_or, get_or-eq_default}
 use borrow.Author.Tests.{le-leb, leb-true, ltb-true, ltb-false, eqb-true, eqb-false, not-true}
 use Rattle.std.specs.List.{list_any, list_all}
+use Rattle.std.proofs.lemmas.Bool.{or_right}
+use Rattle.std.proofs.lemmas.List.Folds.{list_all-append}
+use Rattle.lists.proofs.AndLaws.{all_both}
 use Rattle.lists.specs.Counts.{bit, count}
 use Rattle.lists.proofs.BoolLaws.{by_cases, both_ways, and_parts, and_both}
 use Rattle.lists.proofs.CountLaws.{bit-none}
@@ -48,10 +51,6 @@ use Rattle.image.specs.StackImage.{is_storable, is_stack_storable, upward}
 use Rattle.image.proofs.ImageLaws.{Storable}
 
 -- ---- Tests of lists
-
-pub or_right : (a b : Bool) → b ≡ true → (a || b) ≡ true
-or_right true b h = refl
-or_right false b h = h
 
 module _ {A : Type 0} where
   -- an element that passes one test, and another that all pass
@@ -98,29 +97,12 @@ module _ {A : Type 0} where
   everywhere test [] d h = refl
   everywhere test (x ∷ xs) d h = and_both (test x) (list_all test xs) (h 0 (omega arith)) (everywhere test xs d (λ i p. h (suc i) (omega arith)))
 
-  all_left : (test : A → Bool) (xs ys : List A) → list_all test (xs ++ ys) ≡ true → list_all test xs ≡ true
-  all_left test [] ys h = refl
-  all_left test (x ∷ xs) ys h =
-      let parts = and_parts (test x) (list_all test (xs ++ ys)) h in
-      and_both (test x) (list_all test xs) parts.0 (all_left test xs ys parts.1)
-
-  all_right : (test : A → Bool) (xs ys : List A) → list_all test (xs ++ ys) ≡ true → list_all test ys ≡ true
-  all_right test [] ys h = h
-  all_right test (x ∷ xs) ys h = all_right test xs ys (and_parts (test x) (list_all test (xs ++ ys)) h).1
-
   all-reverse : (test : A → Bool) (xs : List A) → list_all test xs ≡ true → list_all test (reverse xs) ≡ true
   all-reverse test [] h = refl
   all-reverse test (x ∷ xs) h =
       let parts = and_parts (test x) (list_all test xs) h in
       rw (reverse-cons x xs) (all-joined test (reverse xs) (x ∷ []) (all-reverse test xs parts.1)
       (and_both (test x) true parts.0 refl))
-
-  all-both_true : (one two : A → Bool) (xs : List A) → list_all one xs ≡ true → list_all two xs ≡ true → list_all (λ x. one x && two x) xs ≡ true
-  all-both_true one two [] h k = refl
-  all-both_true one two (x ∷ xs) h k =
-      let p = and_parts (one x) (list_all one xs) h in
-      let q = and_parts (two x) (list_all two xs) k in
-      and_both (one x && two x) _ (and_both (one x) (two x) p.0 q.0) (all-both_true one two xs p.1 q.1)
 
   any_more : (one two : A → Bool) (xs : List A) → ((x : A) → one x ≡ true → two x ≡ true) → list_any one xs ≡ true → list_any two xs ≡ true
   any_more one two [] f h = h
@@ -199,9 +181,9 @@ module _ (library : Library) (ok : library_ok library ≡ true) (queue : List Ev
   unfolding has_goal
   posted_kind o h =
       let good : Job → Bool = λ job. has_goal library queue job && is_sound library job.instance in
-      let found =
-      both (is_posted o) good jobs h (all-both_true (has_goal library queue) (λ (job : Job). is_sound library job.instance) jobs goals
-      sounds) in
+      let sound : Job → Bool = λ job. is_sound library job.instance in
+      let goods = all_both (has_goal library queue) sound jobs ∙ and_both (list_all (has_goal library queue) jobs) (list_all sound jobs) goals sounds in
+      let found = both (is_posted o) good jobs h goods in
       let x = found.it.instance in
       let parts = and_parts (has_goal library queue found.it) (is_sound library x) found.goods in
       let posted = and_parts (is_suspended x.status) (same_origin o (goal_of x)) found.tests in
@@ -241,9 +223,10 @@ stored_stacks (stack ∷ rest) h k =
     let parts = and_parts (is_stack stack) (list_all is_stack rest) h in
     let own = jobs_on stack.external (stack.top ∷ stack.below) in
     let test : Job → Bool = λ job. is_storable newest job.instance in
+    let halves = and_parts (list_all test own) (list_all test (live rest)) (sym (list_all-append test own (live rest)) ∙ k) in
     and_both (is_stack_storable newest stack) (list_all (is_stack_storable newest) rest)
-    (stored_stack stack parts.0 (stored_jobs stack.external (stack.top ∷ stack.below) (all_left test own (live rest) k)))
-    (stored_stacks rest parts.1 (all_right test own (live rest) k))
+    (stored_stack stack parts.0 (stored_jobs stack.external (stack.top ∷ stack.below) halves.0))
+    (stored_stacks rest parts.1 halves.1)
 
 few_of : (beliefs : List Literal) → are_beliefs beliefs ≡ true → length beliefs ≤ Beliefs.most_beliefs
 unfolding are_beliefs

@@ -1,5 +1,5 @@
 -- The contents are written before the bodies once these are there.
-use Prim.Native.Nat.{ℕ, ◌+◌, ◌-◌, ◌*◌, ◌≤◌}
+use Prim.Native.Nat.{ℕ, ◌+◌, ◌-◌, ◌*◌, ◌/◌, ◌≤◌}
 use native.Mathlib.Omega.{arith}
 use mathlib.Core.Path.{◌≡◌, refl, ap, sym, ◌∙◌}
 use mathlib.Core.List.{List, [], ◌∷◌, ◌++◌, append_assoc}
@@ -13,17 +13,13 @@ use Rattle.state.specs.View.{view_state}
 use Rattle.image.specs.declared.form.Form.{Form}
 use Rattle.image.specs.declared.form.Form.TheVariants.{Narrow, Wide}
 use Rattle.image.specs.Form.{body_count}
-use Rattle.image.specs.Words.{word_size, words_bytes}
+use Rattle.image.specs.Words.{word_size, words_bytes, words_size}
+use Rattle.image.proofs.WordLaws.{length-bytes}
 use Rattle.image.specs.BeliefImage.{beliefs_bytes}
 use Rattle.image.specs.EventImage.{events_bytes}
 use Rattle.image.specs.StackImage.{stacks_bytes}
 use Rattle.image.specs.Image.{contents_size, entries_from, counts_bytes, width_bodies, image_as, most_image}
 use Rattle.image.specs.Writes.{WritesImage}
-
--- the contents have five entries at least
-pub contents_least : (form : Form) → contents_size Narrow ≤ contents_size form
-contents_least Narrow = omega arith
-contents_least Wide = omega arith
 
 -- the contents before what begins behind them
 pub headed : {m n : ℕ} {first middle last head bodies : List ℕ} {end next : ℕ} (start : ℕ) → start + m ≤ length first
@@ -62,11 +58,8 @@ entries_are start library beliefs events stacks counts more a b c d e p q r t u 
 
 module _ (start a b c d e f : ℕ) where
   -- six entries
-  abbrev pub table : List ℕ
+  abbrev table : List ℕ
   table = start ∷ (a - start) ∷ a ∷ (b - a) ∷ b ∷ (c - b) ∷ c ∷ (d - c) ∷ d ∷ (e - d) ∷ e ∷ (f - e) ∷ []
-
-  pub table-length : (n : ℕ) → n ≤ 12 → length (take n table) ≡ n
-  table-length n few = length-take-le n table (omega (arith, few))
 
   -- those that a form has
   entries_in_lem : (form : Form) → f ≡ e + length (each (λ body. body) (width_bodies form))
@@ -77,7 +70,7 @@ module _ (start a b c d e f : ℕ) where
       let size : f - e ≡ word_size = omega (arith, h) in
       ap (λ (n : ℕ). start ∷ (a - start) ∷ a ∷ (b - a) ∷ b ∷ (c - b) ∷ c ∷ (d - c) ∷ d ∷ (e - d) ∷ e ∷ n ∷ []) size
 
-  pub contents_are : (form : Form) (library beliefs events stacks counts : List ℕ) → a ≡ start + length library
+  contents_are : (form : Form) (library beliefs events stacks counts : List ℕ) → a ≡ start + length library
       → b ≡ a + length beliefs → c ≡ b + length events → d ≡ c + length stacks → e ≡ d + length counts
       → f ≡ e + length (each (λ body. body) (width_bodies form))
       → take (word_size * body_count form) table ≡ entries_from start (library ∷ beliefs ∷ events ∷ stacks ∷ counts ∷ width_bodies form)
@@ -100,28 +93,30 @@ module _ (form : Form) (library : List ℕ) (s : State) where
   abbrev width : List ℕ
   width = each (λ body. body) (width_bodies form)
 
-  -- the entries in a table of six, by the places where the bodies end
-  pub table_are : (start words a b c d e f : ℕ) → words ≡ word_size * body_count form → a ≡ start + length library → b ≡ a + length beliefs
-      → c ≡ b + length events → d ≡ c + length stacks → e ≡ d + length counts → f ≡ e + length width
-      → take words (table start a b c d e f) ≡ entries_from start (library ∷ beliefs ∷ events ∷ stacks ∷ counts ∷ width_bodies form)
-  table_are start words a b c d e f size p q r t u v =
-      ap (λ (n : ℕ). take n (table start a b c d e f)) size
-      ∙ contents_are start a b c d e f form library beliefs events stacks counts p q r t u v
+  abbrev bodies : List ℕ
+  bodies = library ++ (beliefs ++ (events ++ (stacks ++ (counts ++ width))))
 
-  -- the whole
-  pub written_image : {m n : ℕ} {first middle last : List ℕ} {next : ℕ} (start : ℕ) (words : List ℕ) (end : ℕ) → start ≡ contents_size form
-      → start + m ≤ length first → start + m ≤ most_image
-      → Wrote m first middle start end (library ++ (beliefs ++ (events ++ (stacks ++ (counts ++ width)))))
-      → words ≡ entries_from start (library ∷ beliefs ∷ events ∷ stacks ∷ counts ∷ width_bodies form)
-      → length (words_bytes words) ≡ start → n ≤ start → length last ≡ length first → Wrote n middle last 0 next (words_bytes words)
-      → WritesImage form library s last end
+  -- the whole, by the places where the bodies end
+  pub written_image : {m : ℕ} {first middle last : List ℕ} {next : ℕ} (start a b c d e f : ℕ) → start ≡ contents_size form
+      → start ≤ contents_size Wide
+      → a ≡ start + length library → b ≡ a + length beliefs → c ≡ b + length events → d ≡ c + length stacks → e ≡ d + length counts
+      → f ≡ e + length width → start + m ≤ length first → start + m ≤ most_image → Wrote m first middle start f bodies
+      → Wrote (words_size (take (start / 2) (table start a b c d e f))) middle last 0 next (words_bytes (take (start / 2) (table start a b c d e f)))
+      → WritesImage form library s last f
   unfolding image_as
-  written_image start words end begins room few p entries full low same q =
-      let bodies = library ++ (beliefs ++ (events ++ (stacks ++ (counts ++ width)))) in
-      let parts = library ∷ beliefs ∷ events ∷ stacks ∷ counts ∷ width_bodies form in
+  written_image {m} {first} {middle} {last} start a b c d e f begins small pa pb pc pd pe pf room few p q =
+      let own = take (start / 2) (table start a b c d e f) in
+      let words : start / 2 ≡ word_size * body_count form = omega (arith, begins) in
+      let entries : own ≡ entries_from (contents_size form) (library ∷ beliefs ∷ events ∷ stacks ∷ counts ∷ width_bodies form) =
+      ap (λ (n : ℕ). take n (table start a b c d e f)) words
+      ∙ contents_are start a b c d e f form library beliefs events stacks counts pa pb pc pd pe pf
+      ∙ ap (λ (n : ℕ). entries_from n (library ∷ beliefs ∷ events ∷ stacks ∷ counts ∷ width_bodies form)) begins in
+      let size : length own ≡ start / 2 = length-take-le (start / 2) (table start a b c d e f) (omega (arith, small)) in
+      let full : length (words_bytes own) ≡ start = omega (arith, length-bytes own, size, begins) in
+      let same : length last ≡ length first =
+      ap length q.bytes ∙ length-sets middle 0 (words_bytes own) ∙ ap length p.bytes ∙ length-sets first start bodies in
       record {
-        image = headed start room p full low q
-            ∙ ap (λ (w : List ℕ). words_bytes w ++ bodies) (entries ∙ ap (λ (n : ℕ). entries_from n parts) begins);
+        image = headed start room p full (omega (arith, size)) q ∙ ap (λ (w : List ℕ). words_bytes w ++ bodies) entries;
         room = omega (arith, p.within);
         few = omega (arith, p.within);
       }

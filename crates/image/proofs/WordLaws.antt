@@ -8,7 +8,7 @@ use mathlib.Core.Bool.{true}
 use mathlib.Core.List.{List, [], ◌∷◌, ◌++◌, append-nil, append_assoc}
 use lib.Dec.{lit<}
 use lib.ListN.{length, take, get_or}
-use lib.Seq.{take_all, take-suc, get_or-append-add}
+use lib.Seq.{take_all, take-suc, get_or-append-add, length-sets}
 use borrow.Author.Tests.{ltb-true}
 use Rattle.lists.specs.Counts.{each}
 use Rattle.library.specs.Bytes.{u16_at}
@@ -17,7 +17,7 @@ use Rattle.writing.proofs.WritingLaws.{then, widen, written}
 use Rattle.image.specs.declared.form.Form.{Form}
 use Rattle.image.specs.declared.form.Form.TheVariants.{Narrow, Wide}
 use Rattle.image.specs.Form.{number_size}
-use Rattle.image.specs.Words.{words_bytes, long_words, number_bytes, number_at, holds_number}
+use Rattle.image.specs.Words.{word_size, word_bytes, words_bytes, list_bytes, long_words, number_bytes, number_at, holds_number}
 
 -- ---- Reading back
 
@@ -81,13 +81,27 @@ module _ {A : Type 0} (write : A → List ℕ) where
   one_more xs i d h =
       rw (add-one, take-suc xs i d h, each-joined) (ap (λ (t : List ℕ). each write (take i xs) ++ t) (append-nil (write (get_or xs i d))))
 
-  -- one part more is written
-  pub next_part : {first middle last : List ℕ} {at o p : ℕ} (width : ℕ) (xs : List A) (i : ℕ) (d : A) → i < length xs
-      → Wrote (width * i) first middle at o (each write (take i xs)) → Wrote width middle last o p (write (get_or xs i d))
-      → Wrote (width * (i + 1)) first last at p (each write (take (i + 1) xs))
-  next_part width xs i d h done one = written (sym (one_more xs i d h)) (widen (rw (add-one, mul-suc) (omega arith)) (then done one))
+  module _ (width : ℕ) (xs : List A) where
+    -- where a loop that writes the parts stands: those passed are written, each in at most `width` bytes
+    pub record Parts (first : List ℕ) (at : ℕ) (out : List ℕ) (o i : ℕ) : Type 0 where
+      pub kept : length out ≡ length first
+      pub written : Wrote (width * i) first out at o (each write (take i xs))
 
-  -- and all of them
-  pub all_parts : {first last : List ℕ} {at o : ℕ} (width : ℕ) (xs : List A) (i : ℕ) → length xs ≤ i
-      → Wrote (width * i) first last at o (each write (take i xs)) → Wrote (width * i) first last at o (each write xs)
-  all_parts width xs i h done = written (ap (each write) (take_all i xs h)) done
+    pub next_part : {first middle last : List ℕ} {at o p i : ℕ} (d : A) → i < length xs → Parts first at middle o i
+        → Wrote width middle last o p (write (get_or xs i d)) → Parts first at last p (i + 1)
+    next_part {first} {middle} {last} {at} {o} {p} {i} d h done one = record {
+      kept = ap length one.bytes ∙ length-sets middle o (write (get_or xs i d)) ∙ done.kept;
+      written = written (sym (one_more xs i d h)) (widen (rw (add-one, mul-suc) (omega arith)) (then done.written one));
+    }
+
+    -- all of them
+    pub all_parts : {first last : List ℕ} {at o i : ℕ} → length xs ≤ i → i ≤ length xs → Parts first at last o i
+        → Wrote (width * length xs) first last at o (each write xs)
+    all_parts {first} {last} {at} {o} {i} h few done =
+        let size : i ≡ length xs = omega arith in
+        rw size at (written (ap (each write) (take_all i xs h)) done.written)
+
+    -- and their count before them
+    pub list_parts : {before first last : List ℕ} {start at o i : ℕ} → Wrote word_size before first start at (word_bytes (length xs)) → length xs ≤ i
+        → i ≤ length xs → Parts first at last o i → Wrote (word_size + width * length xs) before last start o (list_bytes write xs)
+    list_parts count h few done = then count (all_parts h few done)

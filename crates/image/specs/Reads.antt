@@ -1,7 +1,6 @@
 -- What reading the parts of an image gives: private vocabulary of the functions that read (docs/IMAGE-FORMAT.md; document 02, request 3).
-use Rattle.std.specs.Prelude.{ℕ, ◌-◌, ◌≤◌, min, ◌≡◌, true, List, map, leb, length, take}
+use Rattle.std.specs.Prelude.{ℕ, ◌≤◌, ◌≡◌, true, List, map, leb, take}
 use Rattle.std.specs.List.{list_all}
-use Rattle.accepted.specs.Refusal.{most_bytes}
 use Rattle.model.specs.State.{most_stacks}
 use Rattle.state.specs.declared.Stack.{Stack}
 use Rattle.state.specs.declared.State.{State}
@@ -9,9 +8,8 @@ use Rattle.state.specs.View.{most_below, view_stack, view_state, counts_fit}
 use Rattle.load.specs.Load.{Holds}
 use Rattle.image.specs.declared.form.Form.{Form}
 use Rattle.image.specs.declared.stacks.StackRow.{StackRow}
-use Rattle.image.specs.declared.parts.LibraryCopy.{LibraryCopy}
 use Rattle.image.specs.StackImage.{depth_at, stack_at, stacks_at}
-use Rattle.image.specs.Image.{length_in, library_as, state_as}
+use Rattle.image.specs.Image.{state_as}
 
 pub record ReadsStack (form : Form) (image : List ℕ) (at : ℕ) (r : Stack) : Type 0 where
   pub depth : r.depth ≡ depth_at image at
@@ -22,15 +20,6 @@ pub record ReadsStacks (form : Form) (image : List ℕ) (at : ℕ) (r : StackRow
   pub few : r.count ≤ most_stacks
   pub means : map view_stack (take r.count r.items) ≡ stacks_at form image at
   pub depths : list_all (λ stack. leb stack.depth most_below) (take r.count r.items) ≡ true
-
--- how many bytes of the library are there, from an offset on
-abbrev pub size_in : List ℕ → ℕ → ℕ
-size_in image from = min (min (length_in image 0) most_bytes) (length image - from)
-
-pub record ReadsLibrary (form : Form) (image : List ℕ) (r : LibraryCopy) : Type 0 where
-  pub few : r.size ≤ most_bytes
-  pub places : length r.bytes ≡ most_bytes
-  pub means : take r.size r.bytes ≡ library_as form image
 
 pub record ReadsState (form : Form) (image : List ℕ) (s : State) : Type 0 where
   pub means : view_state s ≡ state_as form image

@@ -1,65 +1,47 @@
-// The parts of an image: its library, copied, and its state, read where the contents say.
-ghost use Rattle.std.specs.Prelude.{◌≡◌};
-ghost use Rattle.image.specs.Reads.{size_in, ReadsLibrary, ReadsState};
+// The parts of an image: its library, and its state, read where the contents say.
+ghost use Rattle.std.specs.Prelude.{◌≡◌, ◌≤◌, length};
+ghost use Rattle.accepted.specs.Refusal.{most_bytes};
+ghost use Rattle.image.specs.Image.{library_as};
+ghost use Rattle.image.specs.Reads.{ReadsState};
 
-use crate::beliefs::beliefs_at;
-use crate::events::events_at;
-use crate::form::{ENTRY_BYTES, Form, contents_size, numbers_size};
-use crate::stacks::stacks_at;
-use crate::words::{WORD_BYTES, number_at};
+use crate::form::ENTRY_BYTES;
+use crate::reader::Reader;
+use crate::words::WORD_BYTES;
 use library::bytes::u16_at;
 use load::MOST_BYTES;
 use state::{MOST_QUEUED, State};
 
-// A library in the first `size` bytes of an array.
-#[derive(Clone, Copy)]
-pub(crate) struct LibraryCopy {
-    pub bytes: [u8; MOST_BYTES],
-    pub size: usize,
-}
-
-// How many bytes of the library are there.
-fn library_size(image: &[u8], from: usize) -> usize
-    ensures { result ≡ size_in image.now from }
-{
-    let size = (u16_at(image, WORD_BYTES) as usize).min(MOST_BYTES);
-    size.min(image.len().saturating_sub(from))
-}
-
-pub(crate) fn library_in(image: &[u8], form: Form) -> LibraryCopy
-    ensures { ReadsLibrary form image.now result }
-{
-    let from = contents_size(form);
-    let size = library_size(image, from);
-    let mut bytes = [0u8; MOST_BYTES];
-    if let Some(library) = image.get(from..from + size) {
-        bytes[..size].copy_from_slice(library);
+impl Reader<'_> {
+    // The library, as far as it is there.
+    pub(crate) fn library(&self) -> &[u8]
+        ensures value { result.now ≡ library_as self.now.form self.now.image.now }
+        ensures few { length result.now ≤ most_bytes }
+    {
+        let size = (u16_at(self.image, WORD_BYTES) as usize).min(MOST_BYTES);
+        let Some(rest) = self.image.get(self.form.contents_size()..) else {
+            return &[];
+        };
+        &rest[..size.min(rest.len())]
     }
-    LibraryCopy { bytes, size }
-}
 
-pub(crate) fn state_in(image: &[u8], form: Form) -> State
-    ensures { ReadsState form image.now result }
-{
-    let b = u16_at(image, ENTRY_BYTES) as usize;
-    let e = u16_at(image, ENTRY_BYTES * 2) as usize;
-    let k = u16_at(image, ENTRY_BYTES * 3) as usize;
-    let c = u16_at(image, ENTRY_BYTES * 4) as usize;
-    let beliefs = beliefs_at(image, b);
-    let queued = (u16_at(image, e) as usize).min(MOST_QUEUED);
-    let queue = events_at(image, e + WORD_BYTES, form, queued);
-    let row = stacks_at(image, k, form);
-    let stacks = row.items;
-    let stacked = row.count;
-    let taken = number_at(image, c, form);
-    let made = number_at(image, c + numbers_size(form, 1), form);
-    State {
-        beliefs,
-        queue,
-        queued,
-        stacks,
-        stacked,
-        taken,
-        made,
+    pub(crate) fn state(&self) -> State
+        ensures { ReadsState self.now.form self.now.image.now result }
+    {
+        let b = u16_at(self.image, ENTRY_BYTES) as usize;
+        let e = u16_at(self.image, ENTRY_BYTES * 2) as usize;
+        let k = u16_at(self.image, ENTRY_BYTES * 3) as usize;
+        let c = u16_at(self.image, ENTRY_BYTES * 4) as usize;
+        let queue = self.events_at(e + WORD_BYTES);
+        let row = self.stacks_at(k);
+        let stacks = row.items;
+        State {
+            beliefs: self.beliefs_at(b),
+            queue,
+            queued: (u16_at(self.image, e) as usize).min(MOST_QUEUED),
+            stacks,
+            stacked: row.count,
+            taken: self.number_at(c),
+            made: self.number_at(c + self.form.numbers_size(1)),
+        }
     }
 }

@@ -2,10 +2,9 @@
 ghost use Rattle.image.specs.Restores.{Restores};
 
 use crate::form::form_in;
-use crate::parts::{library_in, state_in};
-use crate::whole::is_image_of;
-use formed::is_well_formed;
-use load::Agent;
+use crate::reader::Reader;
+use formed::is_formed;
+use load::{Agent, MOST_BYTES};
 use refusals::Refusal;
 
 // The agent that the image holds, or why there is none.
@@ -13,19 +12,20 @@ pub fn restore(image: &[u8]) -> Result<Agent, Refusal>
     ensures { Restores image.now result }
 {
     let form = form_in(image);
-    let copy = library_in(image, form);
-    let state = state_in(image, form);
-    let library = copy.bytes;
-    let size = copy.size;
-    if !is_image_of(image, form, library, size, state) {
+    let reader = Reader { image, form };
+    let state = reader.state();
+    if !reader.is_image_of(&state) {
         return Err(Refusal::NoImage);
     }
-    if !is_well_formed(&library, size, state) {
+    let own = reader.library();
+    if !is_formed(own, state) {
         return Err(Refusal::NotFormed);
     }
+    let mut library = [0u8; MOST_BYTES];
+    library[..own.len()].copy_from_slice(own);
     Ok(Agent {
         library,
-        length: size,
+        length: own.len(),
         state,
     })
 }

@@ -5,9 +5,9 @@ ghost use Rattle.library.specs.Layout.{library_of};
 ghost use Rattle.model.specs.Turn.{next_move};
 ghost use Rattle.jobs.specs.Decision.{view_decision};
 
+use crate::place;
 use belief::Beliefs;
-use library::contents::plan_count;
-use library::{Branch, plan};
+use library::Branch;
 use model::Instance;
 
 #[derive(Clone, Copy)]
@@ -21,22 +21,19 @@ pub enum Decision {
 pub fn next_move(library: &[u8], b: Beliefs, x: Instance) -> Decision
     ensures { view_decision result ≡ next_move (library_of library.now) (view b) x }
 {
-    if plan_count(library) <= x.plan {
+    let Some(plan) = place::plan_of(library, x) else {
         return Decision::Fail;
-    }
-    let plan = x.plan as usize;
-    let env = x.env;
-    let maintenance = plan::maintenance_offset(library, plan);
-    if !situation::holds(library, maintenance, b, env) {
+    };
+    if !situation::holds(plan.library, plan.maintenance_offset(), b, x.env) {
         return Decision::Fail; // in an end state too
     }
-    let count = plan::branch_count(library, plan, x.state as usize);
+    let count = plan.branch_count(x.state as usize);
     if count == 0 {
         return Decision::Succeed;
     }
     if count <= x.tried {
         return Decision::Fail;
     }
-    let branch = plan::branch(library, plan, x.state as usize, x.tried as usize);
+    let branch = plan.branch(x.state as usize, x.tried as usize);
     Decision::Attempt(branch)
 }

@@ -32,6 +32,7 @@ pub fn stepped_to(x: Instance, next: u16, env: Env) -> Instance
 }
 
 // The instance past the branch that it tried last: a poster past its goal, a waiting one past its action.
+// By library and instance, as in place.rt.
 pub fn past_branch(library: &[u8], x: Instance) -> Instance
     ensures { result ≡ past_branch (library_of library.now) x }
 {

@@ -1,14 +1,15 @@
 // Live instances: their place in the plan, and all of them as one flat array.
 #![tactic(auto)]
 
-ghost use Rattle.std.specs.Prelude.{◌≡◌, map};
+ghost use Rattle.std.specs.Prelude.{◌≡◌, map, take};
 ghost use Rattle.model.specs.Live.{live};
-ghost use Rattle.state.specs.View.{view_stacks};
+ghost use Rattle.model.specs.State.{most_stacks};
+ghost use Rattle.state.specs.View.{view_stack};
 ghost use Rattle.jobs.specs.Jobs.{job_of, no_job, flat, view_jobs};
 
 use model::{Instance, Origin, Status};
 use state::origin::goal_of;
-use state::{MOST_BELOW, State};
+use state::{MOST_STACKS, Stack};
 
 pub mod decision; // what an instance does at its turn
 pub mod instance; // an instance moves on
@@ -24,7 +25,7 @@ pub struct Job {
 // At most this many instances are live: eight stacks of eight.
 pub const MOST_JOBS: usize = 64;
 
-// The first `count` items are the live instances.
+// The first `count` items are the live instances. An array with a count, since memory is fixed.
 #[derive(Clone, Copy)]
 pub struct Jobs {
     pub items: [Job; MOST_JOBS],
@@ -49,7 +50,7 @@ fn no_job() -> Job
         instance: Instance {
             id: 0,
             plan: 0,
-            env: literal::empty_env(),
+            env: literal::Env::empty(),
             state: 0,
             tried: 0,
             status: Status::Active,
@@ -58,31 +59,30 @@ fn no_job() -> Job
     }
 }
 
-// The live instances, stack by stack, each from the top down with its event: the goal of the one below, or the stack's external event.
-pub fn live_jobs(s: &State) -> Jobs
-    ensures { result ≡ flat (live (view_stacks s.now)) }
+// The live instances of the first stacks, each stack from the top down, and the event that each serves:
+// the goal of the one below, or the stack's external event.
+pub fn live_jobs(stacks: &[Stack]) -> Jobs
+    ensures { result ≡ flat (live (map view_stack (take most_stacks stacks.now))) }
 {
     let mut items = [no_job(); MOST_JOBS];
     let mut count: usize = 0;
-    for stack in s.standing() {
+    for stack in &stacks[..stacks.len().min(MOST_STACKS)] {
         let mut x = stack.top;
-        let depth = stack.depth.min(MOST_BELOW);
-        for i in (0..depth).rev() {
-            let poster = stack.below[i];
-            let origin = goal_of(poster);
-            items[count] = Job {
+        for poster in stack.beneath().iter().rev() {
+            let origin = goal_of(*poster);
+            let job = Job {
                 instance: x,
                 origin,
             };
-            count += 1;
-            x = poster;
+            count = lists::append(&mut items, count, job);
+            x = *poster;
         }
         let origin = Origin::External(stack.external);
-        items[count] = Job {
+        let job = Job {
             instance: x,
             origin,
         };
-        count += 1;
+        count = lists::append(&mut items, count, job);
     }
     Jobs { items, count }
 }

@@ -18,7 +18,7 @@ use Rattle.literal.specs.declared.Literal.{Literal}
 use Rattle.belief.specs.Beliefs.{replay}
 use Rattle.library.specs.Layout.{beliefs_of}
 use Rattle.model.specs.declared.Answer.{Answer}
-use Rattle.model.specs.declared.Answer.TheVariants.{Taken, Idle, Dropped, Unmet, MadeExternal, MadeGoal, Stepped, Missed, Done, Posted, Succeeded, Failed, Refused}
+use Rattle.model.specs.declared.Answer.TheVariants.{Idle}
 use Rattle.model.specs.State.{Call, Result, view_result}
 use Rattle.model.specs.Lines.{letter_of, fields_of, line_of}
 use Rattle.model.specs.Demand3.{Accounted, Demand3}
@@ -46,19 +46,8 @@ use Rattle.journal.proofs.AnswerLaws.{journal_accounted, session_answers}
 -- what a history notes of an answer is what its letter and values say
 pub note-by_letter : (h : History) (c : Call) (answer : Answer) → note h c answer ≡ note_line h c (letter_of answer) (fields_of answer)
 unfolding note note_line letter_of fields_of
-note-by_letter h c (Taken n) = refl
 note-by_letter h c Idle = refl
-note-by_letter h c (Dropped n failures) = refl
-note-by_letter h c (Unmet i s b failures) = refl
-note-by_letter h c (MadeExternal i plan n) = refl
-note-by_letter h c (MadeGoal i plan poster) = refl
-note-by_letter h c (Stepped i s b next) = refl
-note-by_letter h c (Missed i s b) = refl
-note-by_letter h c (Done i s b l) = refl
-note-by_letter h c (Posted i s b) = refl
-note-by_letter h c (Succeeded i) = refl
-note-by_letter h c (Failed i) = refl
-note-by_letter h c (Refused n) = refl
+note-by_letter h c answer = refl
 
 -- ---- The output, cut at its newlines
 
@@ -99,8 +88,6 @@ same_told : (xs ys : List (Option Link)) → map call_in xs ≡ map call_in ys �
     → Every fits_answer xs → Every fits_answer ys → map told (links_of xs) ≡ map told (links_of ys)
 unfolding told
 same_told [] [] c e p q = refl
-same_told [] (y ∷ ys) c e p q = let sizes = ap length c in absurd (omega (arith, sizes))
-same_told (x ∷ xs) [] c e p q = let sizes = ap length c in absurd (omega (arith, sizes))
 same_told (None ∷ xs) (None ∷ ys) c e p q =
     let calls : map call_in xs ≡ map call_in ys = cc in
     same_told xs ys calls (results_cut unreadable unreadable (each text_of xs) (each text_of ys) e).1 (omega (arith, p)) (omega (arith, q))
@@ -116,31 +103,30 @@ same_told (Some k ∷ xs) (Some m ∷ ys) c e p q =
     let result = result_injective r s (bit_every (fits r) (omega (arith, p))) (bit_every (fits s) (omega (arith, q))) parts.0 in
     let more = same_told xs ys calls parts.1 (omega (arith, p)) (omega (arith, q)) in
     λ i. record { call = call i; result = result i } ∷ more i
+same_told xs ys c e p q = let sizes = ap length c in absurd (omega (arith, sizes))
 
 -- ---- The account
 
 history-told : (h : History) (xs ys : List Link) → map told xs ≡ map told ys → history h (entries_of xs) ≡ history h (entries_of ys)
 unfolding history told
 history-told h [] [] e = refl
-history-told h [] (y ∷ ys) e = let sizes = ap length e in absurd (omega (arith, sizes))
-history-told h (x ∷ xs) [] e = let sizes = ap length e in absurd (omega (arith, sizes))
 history-told h (x ∷ xs) (y ∷ ys) e =
     let here : told x ≡ told y = cc in
     let more : map told xs ≡ map told ys = cc in
     ap (λ (d : Told). history (note h d.call d.result.answer) (entries_of xs)) here
     ∙ history-told (note h y.call (view_result y.given.result).answer) xs ys more
+history-told h xs ys e = let sizes = ap length e in absurd (omega (arith, sizes))
 
 table-told : (beliefs : List Literal) (xs ys : List Link) → map told xs ≡ map told ys
     → replay_all beliefs (entries_of xs) ≡ replay_all beliefs (entries_of ys)
 unfolding replay_all told
 table-told beliefs [] [] e = refl
-table-told beliefs [] (y ∷ ys) e = let sizes = ap length e in absurd (omega (arith, sizes))
-table-told beliefs (x ∷ xs) [] e = let sizes = ap length e in absurd (omega (arith, sizes))
 table-told beliefs (x ∷ xs) (y ∷ ys) e =
     let here : told x ≡ told y = cc in
     let more : map told xs ≡ map told ys = cc in
     ap (λ (d : Told). replay_all (replay beliefs d.result.changes) (entries_of xs)) here
     ∙ table-told (replay beliefs (view_result y.given.result).changes) xs ys more
+table-told beliefs xs ys e = let sizes = ap length e in absurd (omega (arith, sizes))
 
 -- two ways to read one input and one output as calls and their answers, by whatever agents, give one account
 pub account_by_bytes : {a b c d : Agent} {calls : List (Option Call)} {text : List ℕ}

@@ -3,7 +3,7 @@ use Prim.Native.Nat.{ℕ, zero, suc, ◌+◌, ◌≤◌, ◌<◌}
 use native.Mathlib.Omega.{arith}
 use borrow.Author.Tests.{leb-true, eqb-true, eqb-false, eq-eqb, ne_eqb}
 use mathlib.Core.Path.{◌≡◌, refl, ap, sym, subst, subst⁻¹, ◌∙◌}
-use mathlib.Core.Bool.{Bool, true, false, cond}
+use mathlib.Core.Bool.{Bool, true, false}
 use Rattle.std.specs.Prelude.{Option, None, Some, Ok}
 use mathlib.Core.List.{List, [], ◌∷◌, ◌++◌, append-nil}
 use lib.Dec.{leb, eqb}
@@ -23,7 +23,9 @@ use Rattle.load.specs.Load.{Loads}
 use Rattle.agent.specs.declared.feed.Fed.{Fed}
 use Rattle.agent.specs.Feed.{Feeds}
 use Rattle.dialogue.specs.declared.Dialogue.{Dialogue}
-use Rattle.dialogue.specs.Dialogue.{Begins, is_end, closing, chunk_by, after_by, TurnsBy}
+use Rattle.dialogue.specs.declared.Next.{Next}
+use Rattle.dialogue.specs.declared.Next.TheVariants.{Read, Answer, End}
+use Rattle.dialogue.specs.Dialogue.{Begins, is_end, closing, chunk_by, next_in, next_at_end, after_by, TurnsBy}
 use Rattle.journal.specs.Session.{Session, feeds, stops, ends}
 use Rattle.journal.specs.Output.{printed_for}
 use Rattle.journal.specs.Loop.{TurnWrites, Loop, over, reads, turns}
@@ -31,14 +33,38 @@ use Rattle.journal.proofs.SessionLaws.{nothing_in}
 use Rattle.journal.proofs.PieceLaws.{none-ended, feed_reads, newline-read}
 use Rattle.journal.proofs.OutputLaws.{session_printed}
 
+-- ---- What is next
+
+-- whether the input's end is answered
+abbrev ended : Next → Bool
+ended End = true
+ended next = false
+
+-- whether what is left of a piece is to be answered
+abbrev answers : Next → Bool
+answers Answer = true
+answers next = false
+
+-- what of a piece's rest is to be answered
+abbrev left_by : Next → List ℕ → List ℕ
+left_by Answer rest = rest
+left_by next rest = []
+
 -- ---- A turn on a piece
 
 -- what is left of the piece read last
 left_in : Dialogue → List ℕ → List ℕ
-left_in d piece = cond d.used [] (drop d.at piece)
+left_in d piece = left_by d.next (drop d.at piece)
+
+-- a turn on a piece does not answer the input's end
+not_ended : (used : Bool) → ended (next_in used) ≡ false
+unfolding next_in
+not_ended true = refl
+not_ended false = refl
 
 -- a used place has nothing behind it
-nothing_behind : (piece : List ℕ) (at : ℕ) → cond (leb (length piece) at) [] (drop at piece) ≡ drop at piece
+nothing_behind : (piece : List ℕ) (at : ℕ) → left_by (next_in (leb (length piece) at)) (drop at piece) ≡ drop at piece
+unfolding next_in
 nothing_behind piece at =
     by_cases (leb (length piece) at)
     (λ e. rw e (sym (drop_of_length-le piece (leb-true (length piece) at e))))
@@ -48,7 +74,7 @@ module _ (d : Dialogue) (piece rest output : List ℕ) (b : Agent) where
   -- it is a feed of what is left of the piece
   piece_feed : {before after : List ℕ} (written : List ℕ) (fed : Fed) → Feeds d.agent d.carry (drop d.at piece) before after fed
       → written ≡ take fed.wrote after
-      → Session fed.agent fed.carry (cond (leb (length piece) (d.at + fed.read)) [] (drop (d.at + fed.read) piece) ++ rest) output b
+      → Session fed.agent fed.carry (left_by (next_in (leb (length piece) (d.at + fed.read))) (drop (d.at + fed.read) piece) ++ rest) output b
       → Session d.agent d.carry (drop d.at piece ++ rest) (written ++ output) b
   piece_feed {before} {after} written fed f first s =
       feeds (drop d.at piece) rest written fed (record { before = before; after = after; feeds = f; first = first })
@@ -57,15 +83,15 @@ module _ (d : Dialogue) (piece rest output : List ℕ) (b : Agent) where
 
   -- behind it the dialogue goes on
   piece_turn : {r : Dialogue} {written : List ℕ} → is_end piece ≡ false → TurnWrites d piece written r
-      → (r.ended ≡ false → Session r.agent r.carry (left_in r piece ++ rest) output b)
+      → (ended r.next ≡ false → Session r.agent r.carry (left_in r piece ++ rest) output b)
       → Session d.agent d.carry (drop d.at piece ++ rest) (written ++ output) b
   unfolding chunk_by after_by left_in
   piece_turn {r} {written} full w next =
       let t = subst (λ (end : Bool). TurnsBy end d piece w.before w.after r) full w.turn in
       subst⁻¹ (λ (x : Dialogue). written ≡ take x.wrote w.after
-      → (x.ended ≡ false → Session x.agent x.carry (left_in x piece ++ rest) output b)
+      → (ended x.next ≡ false → Session x.agent x.carry (left_in x piece ++ rest) output b)
       → Session d.agent d.carry (drop d.at piece ++ rest) (written ++ output) b)
-      t.gives (λ first s. piece_feed written t.fed t.feeds first (s refl)) w.first next
+      t.gives (λ first s. piece_feed written t.fed t.feeds first (s (not_ended (leb (length piece) (d.at + t.fed.read))))) w.first next
 
 -- ---- The input's end
 
@@ -77,10 +103,8 @@ spoken_for (Some cycle) = Some Cycle
 spoken_for (Some (outcome id worked)) = Some (Outcome id worked)
 
 spoken_for_lem : (call : Option Call) → meaning (spoken_for call) ≡ call
-spoken_for_lem None = refl
-spoken_for_lem (Some (report kind literal)) = refl
 spoken_for_lem (Some cycle) = refl
-spoken_for_lem (Some (outcome id worked)) = refl
+spoken_for_lem call = refl
 
 -- a feed that has read nothing is a feed of no bytes
 unread_feed : {a : Agent} {carry : Carry} {chunk before after : List ℕ} {r : Fed} → Feeds a carry chunk before after r → r.read ≡ 0
@@ -106,9 +130,8 @@ unread_feed {a} {carry} {chunk} {before} {after} {r} f e =
     }
 
 at_most_one : (held : Option (List ℕ)) → length (at_end held) ≤ 1
-at_most_one None = omega arith
 at_most_one (Some []) = omega arith
-at_most_one (Some (b ∷ line)) = omega arith
+at_most_one held = omega arith
 
 not_one : (n : ℕ) → n ≤ 1 → (n ≡ 1 → ⊥) → n ≡ 0
 not_one zero h other = refl
@@ -161,44 +184,44 @@ module _ (d : Dialogue) (output : List ℕ) (b : Agent) {written before after : 
 
 -- the turn at the input's end
 end-turn : (d : Dialogue) (output : List ℕ) (b : Agent) {r : Dialogue} {piece written : List ℕ} → is_end piece ≡ true → TurnWrites d piece written r
-    → (r.ended ≡ false → r.used ≡ true → Session r.agent r.carry [] output b) → (r.ended ≡ true → (output ≡ []) × (b ≡ r.agent))
+    → (r.next ≡ Read → Session r.agent r.carry [] output b) → (r.next ≡ End → (output ≡ []) × (b ≡ r.agent))
     → Session d.agent d.carry [] (written ++ output) b
-unfolding chunk_by after_by
+unfolding chunk_by next_at_end after_by
 end-turn d output b {r} {piece} {written} end w next last =
     let t = subst (λ (x : Bool). TurnsBy x d piece w.before w.after r) end w.turn in
     subst⁻¹ (λ (x : Dialogue). written ≡ take x.wrote w.after
-    → (x.ended ≡ false → x.used ≡ true → Session x.agent x.carry [] output b) → (x.ended ≡ true → (output ≡ []) × (b ≡ x.agent))
+    → (x.next ≡ Read → Session x.agent x.carry [] output b) → (x.next ≡ End → (output ≡ []) × (b ≡ x.agent))
     → Session d.agent d.carry [] (written ++ output) b)
-    t.gives (λ first s e. end-feed d output b t.fed first (at_end (begun d.carry)) refl t.feeds (λ p. s p refl) e) w.first next last
+    t.gives (λ first s e. end-feed d output b t.fed first (at_end (begun d.carry)) refl t.feeds (λ p. s (ap next_at_end p)) (λ p. e (ap next_at_end p))) w.first next last
 
 -- ---- The loop
 
 -- once the input's end is answered nothing more is written
-loop_over : {d e : Dialogue} {piece rest output : List ℕ} → Loop d piece rest output e → d.ended ≡ true → (output ≡ []) × (e.agent ≡ d.agent)
-loop_over (over ended) done = (refl, refl)
-loop_over (reads piece goes_on used end more) done = both_ways done goes_on
-loop_over (turns written r goes_on left w more) done = both_ways done goes_on
+loop_over : {d e : Dialogue} {piece rest output : List ℕ} → Loop d piece rest output e → d.next ≡ End → (output ≡ []) × (e.agent ≡ d.agent)
+loop_over (over end) done = (refl, refl)
+loop_over (reads piece next end more) done = both_ways (ap ended done) (ap ended next)
+loop_over (turns written r next w more) done = both_ways (ap ended done) (ap ended next)
 
 -- where a piece of no bytes is to be answered the input is at its end
 abbrev AtEnd : Dialogue → List ℕ → List ℕ → Type 0
-AtEnd d piece rest = d.used ≡ false → is_end piece ≡ true → rest ≡ []
+AtEnd d piece rest = d.next ≡ Answer → is_end piece ≡ true → rest ≡ []
 
 -- from where the loop stands, with what is left of the piece before what is not read yet
-loop_from : {d e : Dialogue} {piece rest output : List ℕ} → Loop d piece rest output e → d.ended ≡ false → AtEnd d piece rest
+loop_from : {d e : Dialogue} {piece rest output : List ℕ} → Loop d piece rest output e → ended d.next ≡ false → AtEnd d piece rest
     → Session d.agent d.carry (left_in d piece ++ rest) output e.agent
 unfolding left_in
-loop_from (over done) not_yet end = both_ways done not_yet
-loop_from (reads {rest = rest} {output = output} piece goes_on used end more) not_yet _ =
-    rw used (loop_from more goes_on (λ left. end))
-loop_from {d} {e} {piece} {rest} (turns {output = output} written r goes_on left w more) not_yet end =
-    rw left (by_cases (is_end piece)
+loop_from (over done) not_yet end = both_ways (ap ended done) not_yet
+loop_from (reads {rest = rest} {output = output} piece next end more) not_yet _ =
+    rw next (loop_from more refl (λ left. end))
+loop_from {d} {e} {piece} {rest} (turns {output = output} written r next w more) not_yet end =
+    rw next (by_cases (is_end piece)
     (λ no_bytes. let empty : piece ≡ [] = nothing_in piece (eqb-true (length piece) 0 no_bytes) in
-    let input : drop d.at piece ++ rest ≡ [] = ap (λ (xs : List ℕ). drop d.at xs ++ rest) empty ∙ ap (λ (xs : List ℕ). xs ++ rest) (drop-nil d.at) ∙ end left no_bytes in
+    let input : drop d.at piece ++ rest ≡ [] = ap (λ (xs : List ℕ). drop d.at xs ++ rest) empty ∙ ap (λ (xs : List ℕ). xs ++ rest) (drop-nil d.at) ∙ end next no_bytes in
     subst⁻¹ (λ (xs : List ℕ). Session d.agent d.carry xs (written ++ output) e.agent) input
     (end-turn d output e.agent no_bytes w
-    (λ again all. subst (λ (xs : List ℕ). Session r.agent r.carry xs output e.agent)
-    (ap (λ (used : Bool). cond used [] (drop r.at piece) ++ rest) all ∙ end left no_bytes)
-    (loop_from more again (λ still. both_ways all still))) (loop_over more)))
+    (λ again. subst (λ (xs : List ℕ). Session r.agent r.carry xs output e.agent)
+    (ap (λ (n : Next). left_by n (drop r.at piece) ++ rest) again ∙ end next no_bytes)
+    (loop_from more (ap ended again) (λ still. both_ways (ap answers still) (ap answers again)))) (loop_over more)))
     (λ full. piece_turn d piece rest output e.agent full w (λ again. loop_from more again (λ _ no_bytes. both_ways no_bytes full))))
 
 -- the loop from a dialogue that begins is a session of its agent
@@ -206,8 +229,8 @@ pub loop_session : {a : Agent} {d e : Dialogue} {input output : List ℕ} → Be
 unfolding left_in
 loop_session {a} {d} {e} {input} {output} b loop =
     subst (λ (x : Agent). Session x d.carry input output e.agent) b.agent
-    (subst (λ (used : Bool). Session d.agent d.carry (cond used [] (drop d.at []) ++ input) output e.agent) b.reads
-    (loop_from loop b.goes_on (λ left. both_ways b.reads left)))
+    (subst (λ (n : Next). Session d.agent d.carry (left_by n (drop d.at []) ++ input) output e.agent) b.next
+    (loop_from loop (ap ended b.next) (λ left. both_ways (ap answers left) (ap answers b.next))))
 
 -- on an agent that load gives it prints what the definition computes
 pub loop_printed : (bytes : List ℕ) (l : Agent) → Loads bytes (Ok l) → {d e : Dialogue} {input output : List ℕ}
@@ -236,8 +259,8 @@ closed-read (call ∷ calls) f room = newline-read f room
 
 -- and a turn at the input's end answers it
 pub end-answered : {d r : Dialogue} {piece written : List ℕ} (w : TurnWrites d piece written r) → most_line ≤ length w.before → is_end piece ≡ true
-    → r.ended ≡ true
-unfolding chunk_by after_by
+    → r.next ≡ End
+unfolding chunk_by next_at_end after_by
 end-answered {d} {r} {piece} w room end =
     let t = subst (λ (x : Bool). TurnsBy x d piece w.before w.after r) end w.turn in
-    ap (λ (x : Dialogue). x.ended) t.gives ∙ eq-eqb t.fed.read _ (closed-read (at_end (begun d.carry)) t.feeds room)
+    ap (λ (x : Dialogue). x.next) t.gives ∙ ap next_at_end (eq-eqb t.fed.read _ (closed-read (at_end (begun d.carry)) t.feeds room))

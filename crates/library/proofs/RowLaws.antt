@@ -8,7 +8,7 @@ use native.Mathlib.Omega.{arith}
 use lib.ListN.{length, get_or, get_or-eq_default}
 use Rattle.std.specs.List.{range_with_len, list_all, list_any}
 use Rattle.std.proofs.lemmas.List.Folds.{list_all-map}
-use Rattle.lists.proofs.LoopLaws.{any-mapped}
+use Rattle.lists.proofs.MapLaws.{any-mapped}
 use Rattle.lists.proofs.BoolLaws.{and_parts}
 use Rattle.library.specs.Bytes.{u16_at, items, rows, rows_end}
 

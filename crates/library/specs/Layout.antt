@@ -4,6 +4,7 @@ use Rattle.std.specs.Prelude.{ℕ, ◌+◌, ◌*◌, ◌/◌, ◌%◌, List}
 use Rattle.literal.specs.declared.Literal.{Literal}
 use Rattle.library.specs.declared.Action.{Action}
 use Rattle.library.specs.declared.Branch.{Branch}
+use Rattle.library.specs.declared.plan.PlanRef.{PlanRef}
 use Rattle.library.specs.Plan.{Situation, Plan, Library}
 use Rattle.library.specs.Bytes.{u16_at, literal_at, action_at, branch_at, items, rows, rows_end}
 
@@ -94,6 +95,10 @@ entry_length bytes plan = u16_at bytes (4 + 4 * plan + 2)
 -- the plan with a number, where its entry says
 abbrev pub plan_of : List ℕ → ℕ → Plan
 plan_of bytes plan = plan_at bytes (entry_off bytes plan)
+
+-- the same of a reference to it
+abbrev pub described : PlanRef → Plan
+described plan = plan_of plan.library.now plan.number
 
 unfoldable pub beliefs_of : List ℕ → List Literal
 beliefs_of bytes = items (literal_at bytes) 8 (belief_count bytes) (beliefs_off bytes)

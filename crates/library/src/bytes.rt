@@ -1,4 +1,5 @@
 // Numbers, literals, actions and branches at an offset of some bytes. Past the end every byte is 0.
+// Each takes the bytes and an offset: a struct of the two would be made for one call, and be no plainer.
 ghost use Rattle.std.specs.Prelude.{◌≡◌, get_or};
 ghost use Rattle.library.specs.Plan.{no_literal, no_action, no_branch};
 ghost use Rattle.library.specs.Bytes.{u16_at, literal_at, action_at, branch_at};

@@ -1,8 +1,7 @@
-// What stands before the plans: their number, the number of beliefs, each plan's entry, the beliefs.
-ghost use Rattle.std.specs.Prelude.{◌≡◌, ◌+◌, ◌*◌, ◌<◌, get_or};
+// What stands before the plans: their number, the number of beliefs, the beliefs. The entries are read by `plan::PlanRef`.
+ghost use Rattle.std.specs.Prelude.{◌≡◌, get_or};
 ghost use Rattle.library.specs.Plan.{no_literal};
-ghost use Rattle.library.specs.Bytes.{u16_at};
-ghost use Rattle.library.specs.Layout.{plan_count, belief_count, beliefs_of, entry_off, entry_length};
+ghost use Rattle.library.specs.Layout.{plan_count, belief_count, beliefs_of};
 
 use super::bytes::{LITERAL_BYTES, literal_at, no_literal, u16_at};
 use literal::Literal;
@@ -39,29 +38,4 @@ pub fn belief(library: &[u8], place: usize) -> Literal
         library,
         HEADER_BYTES + ENTRY_BYTES * plans + LITERAL_BYTES * place,
     )
-}
-
-// A number of a plan's entry, `place` bytes behind its beginning.
-fn entry_number(library: &[u8], plan: usize, place: usize) -> u16
-    requires { place < 4 }
-    ensures { result ≡ u16_at library.now (4 + 4 * plan + place) }
-{
-    if library.len() / ENTRY_BYTES <= plan {
-        return 0;
-    }
-    u16_at(library, HEADER_BYTES + ENTRY_BYTES * plan + place)
-}
-
-// Where a plan stands, by its entry.
-pub fn entry_offset(library: &[u8], plan: usize) -> u16
-    ensures { result ≡ entry_off library.now plan }
-{
-    entry_number(library, plan, 0)
-}
-
-// How many bytes a plan has, by its entry.
-pub fn entry_length(library: &[u8], plan: usize) -> u16
-    ensures { result ≡ entry_length library.now plan }
-{
-    entry_number(library, plan, 2)
 }

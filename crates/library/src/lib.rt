@@ -4,9 +4,9 @@
 use literal::Literal;
 
 pub mod bytes; // bytes.rt: numbers, literals, actions and branches at an offset
-pub mod contents; // contents.rt: the numbers of plans and beliefs, the entries, the beliefs
+pub mod contents; // contents.rt: the numbers of plans and beliefs, the beliefs
 pub mod kinds; // kinds.rt: what the numbers of kinds name
-pub mod plan; // plan.rt: the parts of a plan
+pub mod plan; // plan.rt: a plan, its entry and its parts
 
 // The most plans of a library.
 pub const MOST_PLANS: u16 = 32;

@@ -1,13 +1,11 @@
--- Laws of closing a gap: the steps of the loop that does it, and what the table holds after it.
+-- Laws of closing a gap: what the table holds after it, place by place and as a list.
 use Prim.Native.Nat.{ℕ, zero, suc, ◌+◌, ◌-◌, ◌<◌, ◌≤◌}
-use native.Mathlib.Numerals.{add-one}
 use native.Mathlib.Omega.{arith}
-use native.Mathlib.Nat.{sub_self, sub-zero, suc-sub-suc, zero-sub}
+use native.Mathlib.Nat.{sub-zero, suc-sub-suc, zero-sub}
 use mathlib.Core.Path.{◌≡◌, ap, sym, ◌∙◌}
-use mathlib.Core.List.{List, [], ◌∷◌, ◌++◌, append_assoc, append-nil}
-use lib.ListN.{length, take, drop, set, get_or, get_or-append, length-append, length-take, length-drop, take-append-drop, drop_of_length-le}
-use lib.Seq.{take-suc, drop-cons, set_at, take_at, get_or-take, get_or-drop, get_or-append-add, take-take, drop-nil, take-nil, take_all, append_snoc}
-use Rattle.std.specs.List.{copy_within}
+use mathlib.Core.List.{List, [], ◌∷◌, ◌++◌, append-nil}
+use lib.ListN.{length, take, drop, set, get_or, get_or-append, length-append, length-take, length-drop, drop_of_length-le}
+use lib.Seq.{drop-cons, set_at, take_at, get_or-take, get_or-drop, get_or-append-add, take-take, drop-nil, take-nil, take_all, append_snoc}
 use Rattle.lists.specs.Gap.{remove_at, close_gap}
 
 pub drop-take : {A : Type 0} (m n : ℕ) (xs : List A) → drop m (take n xs) ≡ take (n - m) (drop m xs)
@@ -23,36 +21,6 @@ closed i n xs = take i xs ++ take (n - i) (drop (suc i) xs)
 length-closed : {A : Type 0} (xs : List A) (i n : ℕ) → i ≤ n → n < length xs → length (closed i n xs) ≡ n
 unfolding closed
 length-closed xs i n p q = simp (length-append, length-take, length-drop) (omega arith)
-
--- nothing is moved yet
-pub gap_start : {A : Type 0} (xs : List A) (i : ℕ) → close_gap i i xs ≡ xs
-gap_start xs i = simp (sub_self, append-nil, take-append-drop)
-
--- one more place is moved
-module _ {A : Type 0} (xs : List A) (i n : ℕ) (d : A) (low : i ≤ n) (high : n + 1 < length xs) where
-  next : get_or (close_gap i n xs) (n + 1) d ≡ get_or xs (n + 1) d
-  unfolding closed
-  next =
-      ap (λ (m : ℕ). get_or (closed i n xs ++ drop n xs) (m + 1) d) (sym (length-closed xs i n low (omega arith)))
-      ∙ get_or-append-add (closed i n xs) (drop n xs) 1 d
-      ∙ get_or-drop n xs 1 d
-
-  stored : (v : A) → set (close_gap i n xs) n v ≡ closed i n xs ++ (v ∷ drop (suc n) xs)
-  unfolding closed
-  stored v =
-      ap (λ (t : List A). set (closed i n xs ++ t) n v) (drop-cons xs n d (omega arith))
-      ∙ set_at (closed i n xs) _ _ v n (length-closed xs i n low (omega arith))
-
-  wanted : close_gap i (n + 1) xs ≡ closed i n xs ++ (get_or xs (n + 1) d ∷ drop (suc n) xs)
-  unfolding closed
-  wanted =
-      let e : n + 1 - i ≡ suc (n - i) = omega arith in
-      let f : suc i + (n - i) ≡ n + 1 = omega arith in
-      let h : n - i < length (drop (suc i) xs) = simp length-drop (omega arith) in
-      rw (e, take-suc (drop (suc i) xs) (n - i) d, get_or-drop, f) (simp (append_assoc, add-one))
-
-  pub gap_step : set (close_gap i n xs) n (get_or (close_gap i n xs) (n + 1) d) ≡ close_gap i (n + 1) xs
-  gap_step = rw next (stored _ ∙ sym wanted)
 
 -- the places in use after it
 module _ {A : Type 0} (xs : List A) (i n : ℕ) (low : i < n) (high : n ≤ length xs) where
@@ -118,10 +86,3 @@ module _ {A : Type 0} (xs : List A) (i n : ℕ) (d : A) (low : i ≤ n) (high : 
       let k : length (closed i n xs) + (j - n) ≡ j = omega (arith, length-closed xs i n low high) in
       let m : n + (j - n) ≡ j = omega arith in
       ap (λ (p : ℕ). get_or (closed i n xs ++ drop n xs) p d) (sym k) ∙ get_or-append-add (closed i n xs) (drop n xs) (j - n) d ∙ get_or-drop n xs (j - n) d ∙ ap (λ (p : ℕ). get_or xs p d) m
-
--- the elements behind the gap, copied down over it, close it
-pub copied_down : {A : Type 0} (xs : List A) (i n : ℕ) → i < n → n ≤ length xs → copy_within xs (i + 1) n i ≡ close_gap i (n - 1) xs
-copied_down xs i n low high =
-    let e : n - (i + 1) ≡ n - 1 - i = omega arith in
-    let f : i + (n - 1 - i) ≡ n - 1 = omega arith in
-    rw (e, f, add-one i)

@@ -4,7 +4,6 @@ pub mod TestLaws
 pub mod AllLaws
 pub mod SearchLaws
 pub mod PositionLaws
-pub mod LoopLaws
 pub mod GapLaws
 pub mod MapLaws
 pub mod ArrayLaws
@@ -13,3 +12,5 @@ pub mod TestCounts
 pub mod LikeLaws
 pub mod PlaceLaws
 pub mod AndLaws
+pub mod DistinctLaws
+pub mod FromFnLaws

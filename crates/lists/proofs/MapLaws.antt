@@ -1,10 +1,15 @@
--- The steps of a loop that replaces each element of an array by what a function gives for it.
+-- Replacing each element of an array by what a function gives for it, and tests on what a function gives for the elements.
 use Prim.Native.Nat.{ℕ, zero, suc, ◌+◌, ◌≤◌}
 use native.Mathlib.Numerals.{add-one}
 use native.Mathlib.Omega.{arith}
 use mathlib.Core.Path.{◌≡◌, refl, ap, sym, ◌∙◌}
+use mathlib.Core.Bool.{Bool}
 use mathlib.Core.List.{List, [], ◌∷◌, map}
 use lib.ListN.{length, set, get_or}
+use Rattle.std.specs.List.{list_any, list_all}
+use Rattle.lists.specs.Search.{distinct}
+
+-- ---- The steps of a loop that replaces each element
 
 module _ {A : Type 0} (f : A → A) where
   -- the first n elements replaced
@@ -30,3 +35,19 @@ module _ {A : Type 0} (f : A → A) where
   mapped_end n [] h = refl
   mapped_end zero (x ∷ xs) h = absurd (omega arith)
   mapped_end (suc n) (x ∷ xs) h = ap (λ (zs : List A). f x ∷ zs) (mapped_end n xs (omega arith))
+
+-- ---- Tests on what a function gives for the elements
+
+module _ {A B : Type 0} (f : A → B) where
+  pub all-mapped : (test : B → Bool) (xs : List A) → list_all test (map f xs) ≡ list_all (λ x. test (f x)) xs
+  all-mapped test [] = refl
+  all-mapped test (x ∷ xs) = rw (all-mapped test xs)
+
+  pub any-mapped : (test : B → Bool) (xs : List A) → list_any test (map f xs) ≡ list_any (λ x. test (f x)) xs
+  any-mapped test [] = refl
+  any-mapped test (x ∷ xs) = rw (any-mapped test xs)
+
+  pub distinct-mapped : (equal : B → B → Bool) (xs : List A) → distinct equal (map f xs) ≡ distinct (λ x y. equal (f x) (f y)) xs
+  unfolding distinct
+  distinct-mapped equal [] = refl
+  distinct-mapped equal (x ∷ xs) = rw (any-mapped (equal (f x)) xs, distinct-mapped equal xs)

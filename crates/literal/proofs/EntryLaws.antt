@@ -35,10 +35,13 @@ module _ (terms : List ℕ) (i : ℕ) (low : i < length terms) (inv : EntriesLef
   pub entries_stop : (is_constant (get_or terms i 0) || eqb (get_or terms i 0) (first_variable + i)) ≡ false → are_entries first_variable terms ≡ false
   entries_stop e = sym inv ∙ from_here false e
 
-pub entries-end : (terms : List ℕ) (i : ℕ) → length terms ≤ i → EntriesLeft terms i → are_entries first_variable terms ≡ true
+pub entries_end : (terms : List ℕ) (i : ℕ) → length terms ≤ i → EntriesLeft terms i → are_entries first_variable terms ≡ true
 unfolding are_entries
-entries-end terms i h inv = sym inv ∙ ap (are_entries (first_variable + i)) (drop_of_length-le terms h)
+entries_end terms i h inv = sym inv ∙ ap (are_entries (first_variable + i)) (drop_of_length-le terms h)
 
 pub env_by_entries : (env : Env) → length env.terms ≡ 8 → are_entries first_variable env.terms ≡ is_env env
 unfolding is_env
 env_by_entries env len = rw (eq-eqb (length env.terms) 8 len)
+
+-- what the loop over the entries stands on
+pub ruleset entry_laws = (entries_next, entries_stop, entries_end, env_by_entries)

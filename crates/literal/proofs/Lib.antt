@@ -4,3 +4,4 @@ pub mod EntryLaws
 pub mod MatchLaws
 pub mod DivideLaws
 pub mod Cases
+pub mod WordLaws

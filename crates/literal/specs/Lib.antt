@@ -1,4 +1,5 @@
 pub mod Literal
+pub mod Word
 pub mod Environment
 pub mod Match
 pub mod Divide

@@ -2,7 +2,7 @@
 #![tactic(auto)]
 
 ghost use Rattle.std.specs.Prelude.{◌≡◌, ◌||◌, eqb, cond, Some, None};
-ghost use Rattle.literal.specs.Literal.{is_constant, is_ground, same, opposite};
+ghost use Rattle.literal.specs.Literal.{is_constant, is_ground, opposite};
 ghost use Rattle.literal.specs.Environment.{value, instantiate, empty_env, is_env, replace, bind};
 ghost use Rattle.literal.specs.Match.{match_term, match_literal};
 ghost use Rattle.literal.specs.Divide.{divide};
@@ -36,38 +36,26 @@ pub struct Env {
     pub terms: [u16; VARIABLES],
 }
 
-#[tactic(auto, unfolding(crate::specs::Literal::is_ground))]
-pub fn is_ground(l: Literal) -> bool
-    ensures { result ≡ is_ground l }
-{
-    l.first < FIRST_VARIABLE && l.second < FIRST_VARIABLE && l.third < FIRST_VARIABLE
-}
+impl Literal {
+    // Whether it has no variables.
+    #[tactic(auto, unfolding(crate::specs::Literal::is_ground))]
+    pub fn is_ground(self) -> bool
+        ensures { result ≡ is_ground self }
+    {
+        self.first < FIRST_VARIABLE && self.second < FIRST_VARIABLE && self.third < FIRST_VARIABLE
+    }
 
-#[tactic(auto, unfolding(crate::specs::Literal::same))]
-pub fn is_same(l: Literal, m: Literal) -> bool
-    ensures { result ≡ same l m }
-{
-    l == m
-}
-
-// The literal with the other sign.
-#[tactic(auto, unfolding(crate::specs::Literal::opposite))]
-pub fn opposite_of(l: Literal) -> Literal
-    ensures { result ≡ opposite l }
-{
-    let head = if l.head < NEGATIVE {
-        l.head + NEGATIVE
-    } else {
-        l.head - NEGATIVE
-    };
-    Literal { head, ..l }
-}
-
-pub fn empty_env() -> Env
-    ensures { result ≡ empty_env }
-{
-    Env {
-        terms: [65528, 65529, 65530, 65531, 65532, 65533, 65534, 65535],
+    // The literal with the other sign.
+    #[tactic(auto, unfolding(crate::specs::Literal::opposite))]
+    pub fn opposite(self) -> Literal
+        ensures { result ≡ opposite self }
+    {
+        let head = if self.head < NEGATIVE {
+            self.head + NEGATIVE
+        } else {
+            self.head - NEGATIVE
+        };
+        Literal { head, ..self }
     }
 }
 
@@ -78,111 +66,125 @@ fn is_entry(variable: u16, term: u16) -> bool
     term < FIRST_VARIABLE || term == variable
 }
 
-// Whether each variable stands for a constant or, while it is unbound, for itself.
-pub fn is_env(env: Env) -> bool
-    ensures { result ≡ is_env env }
-{
-    for (i, term) in env.terms.iter().enumerate() {
-        let variable = FIRST_VARIABLE + i as u16;
-        if !is_entry(variable, *term) {
-            return false;
+impl Env {
+    // The environment in which nothing is bound.
+    pub fn empty() -> Env
+        ensures { result ≡ empty_env }
+    {
+        Env {
+            terms: [65528, 65529, 65530, 65531, 65532, 65533, 65534, 65535],
         }
     }
-    true
-}
 
-// What a term stands for.
-#[tactic(auto, unfolding(crate::specs::Environment::value))]
-pub fn value_of(env: Env, term: u16) -> u16
-    ensures { result ≡ value env term }
-{
-    if term < FIRST_VARIABLE {
-        return term;
+    // Whether each variable stands for a constant or, while it is unbound, for itself.
+    #[tactic(auto, using(crate::proofs::EntryLaws::entry_laws))]
+    pub fn is_env(self) -> bool
+        ensures { result ≡ is_env self }
+    {
+        for (i, term) in self.terms.iter().enumerate() {
+            let variable = FIRST_VARIABLE + i as u16;
+            if !is_entry(variable, *term) {
+                return false;
+            }
+        }
+        true
     }
-    let i = (term - FIRST_VARIABLE) as usize;
-    env.terms[i]
-}
 
-// The literal with its bound variables replaced by their constants.
-#[tactic(auto, unfolding(crate::specs::Environment::instantiate))]
-pub fn instantiated(env: Env, l: Literal) -> Literal
-    ensures { result ≡ instantiate env l }
-{
-    Literal {
-        head: l.head,
-        first: value_of(env, l.first),
-        second: value_of(env, l.second),
-        third: value_of(env, l.third),
+    // What a term stands for.
+    #[tactic(auto, unfolding(crate::specs::Environment::value))]
+    pub fn value_of(self, term: u16) -> u16
+        ensures { result ≡ value self term }
+    {
+        if term < FIRST_VARIABLE {
+            return term;
+        }
+        let i = (term - FIRST_VARIABLE) as usize;
+        self.terms[i]
     }
-}
 
-// The environment in which all that stood for the variable stands for the constant.
-fn bound(variable: u16, constant: u16, mut env: Env) -> Env
-    ensures { result ≡ bind variable constant env }
-{
-    for term in env.terms.iter_mut() {
-        if *term == variable {
-            *term = constant;
+    // The literal with its bound variables replaced by their constants.
+    #[tactic(auto, unfolding(crate::specs::Environment::instantiate))]
+    pub fn instantiated(self, l: Literal) -> Literal
+        ensures { result ≡ instantiate self l }
+    {
+        Literal {
+            head: l.head,
+            first: self.value_of(l.first),
+            second: self.value_of(l.second),
+            third: self.value_of(l.third),
         }
     }
-    env
-}
 
-#[tactic(auto, unfolding(crate::specs::Match::match_term))]
-fn match_term(term: u16, constant: u16, env: Env) -> Option<Env>
-    ensures { result ≡ match_term term constant env }
-{
-    let now = value_of(env, term);
-    if now < FIRST_VARIABLE {
-        return (now == constant).then_some(env);
+    // The environment in which all that stood for the variable stands for the constant.
+    #[tactic(auto, using(lists::proofs::MapLaws::mapped_end), unfolding(crate::specs::Environment::bind))]
+    fn bound(mut self, variable: u16, constant: u16) -> Env
+        ensures { result ≡ bind variable constant self }
+    {
+        for term in self.terms.iter_mut() {
+            if *term == variable {
+                *term = constant;
+            }
+        }
+        self
     }
-    Some(bound(now, constant, env))
-}
 
-// The literal against a ground one, from an environment.
-#[tactic(auto, unfolding(crate::specs::Match::match_literal))]
-pub fn match_literal(l: Literal, known: Literal, env: Env) -> Option<Env>
-    ensures { result ≡ match_literal l known env }
-{
-    if l.head != known.head {
-        return None;
+    // A term against a constant.
+    #[tactic(auto, unfolding(crate::specs::Match::match_term))]
+    fn match_term(self, term: u16, constant: u16) -> Option<Env>
+        ensures { result ≡ match_term term constant self }
+    {
+        let now = self.value_of(term);
+        if now < FIRST_VARIABLE {
+            return (now == constant).then_some(self);
+        }
+        Some(self.bound(now, constant))
     }
-    let after_one = match_term(l.first, known.first, env)?;
-    let after_two = match_term(l.second, known.second, after_one)?;
-    match_term(l.third, known.third, after_two)
-}
 
-// The constant that a term stands for.
-fn constant_of(env: Env, term: u16) -> Option<u16>
-    ensures { result ≡ cond (is_constant (value env term)) (Some (value env term)) None }
-{
-    let now = value_of(env, term);
-    (now < FIRST_VARIABLE).then_some(now)
-}
-
-// The variable that a term stands for.
-fn variable_of(env: Env, term: u16) -> Option<u16>
-    ensures { result ≡ cond (is_constant (value env term)) None (Some (value env term)) }
-{
-    let now = value_of(env, term);
-    (FIRST_VARIABLE <= now).then_some(now)
-}
-
-// The first term divided by the second: the quotient and the remainder are bound to the two variables that the head names.
-#[tactic(auto, unfolding(crate::specs::Divide::divide, crate::specs::Divide::can_divide))]
-pub fn divide(l: Literal, env: Env) -> Option<Env>
-    ensures { result ≡ divide l env }
-{
-    if VARIABLE_PAIRS <= l.head {
-        return None;
+    // The literal against a ground one, from this environment.
+    #[tactic(auto, unfolding(crate::specs::Match::match_literal))]
+    pub fn match_literal(self, l: Literal, known: Literal) -> Option<Env>
+        ensures { result ≡ match_literal l known self }
+    {
+        if l.head != known.head {
+            return None;
+        }
+        let after_one = self.match_term(l.first, known.first)?;
+        let after_two = after_one.match_term(l.second, known.second)?;
+        after_two.match_term(l.third, known.third)
     }
-    let length = constant_of(env, l.first)?;
-    let panel = constant_of(env, l.second)?;
-    if panel == 0 {
-        return None;
+
+    // The constant that a term stands for.
+    fn constant_of(self, term: u16) -> Option<u16>
+        ensures { result ≡ cond (is_constant (value self term)) (Some (value self term)) None }
+    {
+        let now = self.value_of(term);
+        (now < FIRST_VARIABLE).then_some(now)
     }
-    let quotient = variable_of(env, FIRST_VARIABLE + l.head % REMAINDER_FACTOR)?;
-    let remainder = variable_of(env, FIRST_VARIABLE + l.head / REMAINDER_FACTOR)?;
-    let once = bound(quotient, length / panel, env);
-    Some(bound(remainder, length % panel, once))
+
+    // The variable that a term stands for.
+    fn variable_of(self, term: u16) -> Option<u16>
+        ensures { result ≡ cond (is_constant (value self term)) None (Some (value self term)) }
+    {
+        let now = self.value_of(term);
+        (FIRST_VARIABLE <= now).then_some(now)
+    }
+
+    // The first term divided by the second: the quotient and the remainder are bound to the two variables that the head names.
+    #[tactic(auto, unfolding(crate::specs::Divide::divide, crate::specs::Divide::can_divide))]
+    pub fn divide(self, l: Literal) -> Option<Env>
+        ensures { result ≡ divide l self }
+    {
+        if VARIABLE_PAIRS <= l.head {
+            return None;
+        }
+        let length = self.constant_of(l.first)?;
+        let panel = self.constant_of(l.second)?;
+        if panel == 0 {
+            return None;
+        }
+        let quotient = self.variable_of(FIRST_VARIABLE + l.head % REMAINDER_FACTOR)?;
+        let remainder = self.variable_of(FIRST_VARIABLE + l.head / REMAINDER_FACTOR)?;
+        let once = self.bound(quotient, length / panel);
+        Some(once.bound(remainder, length % panel))
+    }
 }

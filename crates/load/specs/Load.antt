@@ -7,7 +7,6 @@ use Rattle.literal.specs.declared.Literal.{Literal}
 use Rattle.literal.specs.Environment.{empty_env}
 use Rattle.belief.specs.declared.Beliefs.{Beliefs}
 use Rattle.belief.specs.Beliefs.{most_beliefs, view}
-use Rattle.library.specs.Plan.{no_literal}
 use Rattle.library.specs.Layout.{beliefs_of, library_of}
 use Rattle.accepted.specs.Refusal.{most_bytes, refusal_of}
 use Rattle.model.specs.declared.Instance.{Instance}
@@ -35,10 +34,6 @@ pub record Holds (beliefs : List Literal) (table : Beliefs) : Type 0 where
   pub means : view table ≡ beliefs
 
 -- ---- A state with nothing in it
-
--- a table without beliefs
-abbrev pub no_beliefs : Beliefs
-no_beliefs = record { items = replicate most_beliefs no_literal; count = 0 }
 
 -- what stands in the places of instances and of stacks
 abbrev pub nobody : Instance

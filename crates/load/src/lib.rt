@@ -5,7 +5,7 @@ ghost use Rattle.std.specs.Prelude.{◌≡◌, ◌≤◌, length, take};
 ghost use Rattle.belief.specs.Beliefs.{most_beliefs};
 ghost use Rattle.library.specs.Layout.{beliefs_of};
 ghost use Rattle.accepted.specs.Refusal.{most_bytes};
-ghost use Rattle.load.specs.Load.{Holds, no_beliefs, starts_with, Loads};
+ghost use Rattle.load.specs.Load.{bytes_of, Holds, starts_with, Loads};
 
 use belief::{Beliefs, MOST_BELIEFS};
 use model::{Event, Instance, Origin, Status};
@@ -16,12 +16,21 @@ use std::array;
 // The largest library.
 pub const MOST_BYTES: usize = 19332;
 
-// The agent: its own copy of the library in the first `length` bytes, and its state.
+// The agent: its own copy of the library in the first `length` bytes, and its state. An array and its length: fixed memory, a named form.
 #[derive(Clone, Copy)]
 pub struct Agent {
     pub library: [u8; MOST_BYTES],
     pub length: usize,
     pub state: State,
+}
+
+impl Agent {
+    // The library: the bytes of its array that are in use.
+    pub fn bytes(&self) -> &[u8]
+        ensures { result.now ≡ bytes_of self.now }
+    {
+        &self.library[..self.length.min(self.library.len())]
+    }
 }
 
 // The bytes at the beginning of an array, zeros after them.
@@ -32,17 +41,6 @@ fn copied(library: &[u8]) -> [u8; MOST_BYTES]
     let mut copy = [0u8; MOST_BYTES];
     copy[..library.len()].copy_from_slice(library);
     copy
-}
-
-// A table without beliefs.
-fn no_beliefs() -> Beliefs
-    ensures { result ≡ no_beliefs }
-{
-    let nothing = library::bytes::no_literal();
-    Beliefs {
-        items: [nothing; MOST_BELIEFS],
-        count: 0,
-    }
 }
 
 // The initial beliefs of a library.
@@ -67,11 +65,11 @@ fn first_state(beliefs: Beliefs) -> State
         literal: nothing,
         failed: 0,
     };
-    let env = literal::empty_env();
+    let env = literal::Env::empty();
     let nobody = Instance {
         id: 0,
         plan: 0,
-        env: env,
+        env,
         state: 0,
         tried: 0,
         status: Status::Active,
@@ -83,7 +81,7 @@ fn first_state(beliefs: Beliefs) -> State
         external: 0,
     };
     State {
-        beliefs: beliefs,
+        beliefs,
         queue: [event; MOST_QUEUED],
         queued: 0,
         stacks: [stack; MOST_STACKS],

@@ -4,7 +4,6 @@ use mathlib.Core.Path.{◌≡◌, refl, sym, ap, subst}
 use mathlib.Core.List.{List}
 use mathlib.Core.Bool.{true}
 use native.Mathlib.Omega.{arith}
-use Rattle.std.specs.List.{list_any}
 use Rattle.library.specs.Plan.{Library}
 use Rattle.model.specs.declared.Event.{Event}
 use Rattle.model.specs.declared.Answer.{Answer}
@@ -46,23 +45,8 @@ loaded_well_formed library r = formed_test library (loaded library) (loaded_form
 step-refusal : {library : Library} {n m n' m' : ℕ} {c : Call} {q q' : List Event} {ks ks' : List Intention} {a : Answer}
     → Step library n m c q ks a n' m' q' ks' → is_refusal_for c (refusal_in a) ≡ true
 unfolding is_refusal_for refusal_in
-step-refusal Step.idle = refl
 step-refusal (Step.refused number e) = e
-step-refusal (Step.taken kind l x g f h) = refl
-step-refusal (Step.dropped k p z) = refl
-step-refusal (Step.unmet x y z o p s u) = refl
-step-refusal (Step.made_external chosen k p z x f h) = refl
-step-refusal (Step.made_goal chosen x d p s z y f) = refl
-step-refusal (Step.missed x s g) = refl
-step-refusal (Step.stepped x v s g e) = refl
-step-refusal (Step.done x l s g k) = refl
-step-refusal (Step.posted x g s h o) = refl
-step-refusal (Step.failed_bottom s g) = refl
-step-refusal (Step.failed_above s g) = refl
-step-refusal (Step.succeeded_bottom s g) = refl
-step-refusal (Step.succeeded_above s g w) = refl
-step-refusal (Step.worked w) = refl
-step-refusal (Step.not_worked_lem w) = refl
+step-refusal step = refl
 
 -- ---- A call
 

@@ -56,12 +56,9 @@ module _ (beliefs : List Literal) (c : Change) where
     where
       go : (g r b room : Bool) → is_ground l ≡ g → c.removes ≡ r → holds beliefs l ≡ b → fits beliefs l ≡ room
           → are_beliefs (foldl change beliefs (cond (g && cond r b (not b && room)) (clearing beliefs c ++ (c ∷ [])) [])) ≡ true
-      go false r b room p q x y = h
       go true true true room p q x y = rw q (minus-beliefs beliefs l h)
-      go true true false room p q x y = h
-      go true false true room p q x y = h
       go true false false true p q x y = ap are_beliefs (replay-put q x) ∙ put_beliefs beliefs l h p y
-      go true false false false p q x y = h
+      go g r b room p q x y = h
 
   pub effective_does : are_beliefs beliefs ≡ true → are_effective beliefs (effective beliefs c) ≡ true
   unfolding effective takes_effect are_effective clearing alters
@@ -74,15 +71,12 @@ module _ (beliefs : List Literal) (c : Change) where
 
       go : (g r b room against : Bool) → is_ground l ≡ g → c.removes ≡ r → holds beliefs l ≡ b → fits beliefs l ≡ room → holds beliefs (opposite l) ≡ against
           → are_effective beliefs (cond (g && cond r b (not b && room)) (when (not r && against) gone ++ (c ∷ [])) []) ≡ true
-      go false r b room against p q x e y = refl
       go true true true room against p q x e y = rw (p, q, x)
-      go true true false room against p q x e y = refl
-      go true false true room against p q x e y = refl
-      go true false false false against p q x e y = refl
       go true false false true true p q x e y =
           and_both (is_ground (opposite l) && holds beliefs (opposite l)) _ (and_both (is_ground (opposite l)) (holds beliefs (opposite l)) (opposite_ground l ∙ p) y)
           (alone (minus beliefs (opposite l)) p q (minus_new beliefs l (opposite l) x) (minus-gone beliefs (opposite l) (beliefs-distinct beliefs h)) (minus_short beliefs (opposite l) h y))
       go true false false true false p q x e y = alone beliefs p q x y (fits_short beliefs l x y e)
+      go g r b room against p q x e y = refl
 
   -- a change that takes effect by itself is all that it does
   pub effective_alone : (is_ground c.literal && alters beliefs c) ≡ true → effective beliefs c ≡ (c ∷ [])
@@ -91,13 +85,9 @@ module _ (beliefs : List Literal) (c : Change) where
     where
       go : (g r b against room : Bool) → (g && cond r b (not b && (not against && room))) ≡ true
           → cond (g && cond r b (not b && (b || (against || room)))) (when (not r && against) (record { removes = true; literal = opposite l }) ++ (c ∷ [])) [] ≡ (c ∷ [])
-      go false r b against room e = both_ways e refl
       go true true true against room e = refl
-      go true true false against room e = both_ways e refl
-      go true false true against room e = both_ways e refl
-      go true false false true room e = both_ways e refl
       go true false false false true e = refl
-      go true false false false false e = both_ways e refl
+      go g r b against room e = both_ways e refl
 
   pub effective-few : length (effective beliefs c) ≤ 2
   unfolding effective clearing
@@ -105,8 +95,7 @@ module _ (beliefs : List Literal) (c : Change) where
     where
       go : (b d : Bool) → length (cond b (when d (record { removes = true; literal = opposite l }) ++ (c ∷ [])) []) ≤ 2
       go true true = omega arith
-      go true false = omega arith
-      go false d = omega arith
+      go b d = omega arith
 
 -- ---- A list of actions
 

@@ -10,13 +10,13 @@ use borrow.Author.Tests.{eq-eqb, eqb-true}
 use Rattle.std.specs.List.{list_any}
 use Rattle.lists.specs.Counts.{bit, count, Every}
 use Rattle.lists.proofs.BoolLaws.{by_cases, both_ways, and_both}
-use Rattle.lists.proofs.CountLaws.{bit_left, bit_right, bit_le_one, total-length, total_same, total_le, count_less}
+use Rattle.lists.proofs.CountLaws.{bit_left, bit_right, bit_le_one, total-length, total_same, total_le, total_zero, count_less}
 use Rattle.lists.proofs.TestCounts.{any_some, some-any}
 use Rattle.library.specs.Plan.{Library}
 use Rattle.model.specs.declared.Event.{Event}
 use Rattle.model.specs.declared.Origin.{Origin}
 use Rattle.model.specs.declared.Origin.TheVariants.{External, Goal}
-use Rattle.model.specs.State.{AgentState, Call, report, cycle, outcome}
+use Rattle.model.specs.State.{AgentState, Call, cycle}
 use Rattle.model.specs.Live.{is_goal, same_origin, is_of, goal_of, Job, live, serves, is_pending}
 use Rattle.model.specs.WellFormed.{is_served, is_well_formed}
 use Rattle.model.specs.Formed.{Acceptable, WellFormed}
@@ -45,9 +45,8 @@ not_ten c number e = by_cases (eqb number 10)
     (λ f. ap not f)
   where
     ten : (c : Call) → is_refusal_for c 10 ≡ false
-    ten (report kind l) = refl
     ten cycle = refl
-    ten (outcome id worked) = refl
+    ten c = refl
 
 module _ (library : Library) (r : Acceptable library) where
   run_reached : (h : History) (s : AgentState) (calls : List Call) → Reached library h s
@@ -113,14 +112,12 @@ module _ {library : Library} {h : History} {s : AgentState} (k : Reached library
 
   pending_or_served : (part : List Event) → Every (λ e. is_pending J e || eqb (count (serves e.origin) J) 1) part
   unfolding is_pending
-  pending_or_served [] = refl
-  pending_or_served (e ∷ part) = omega (
-    arith,
-    pending_or_served part,
-    ap (λ b. bit (not b)) (by_cases (list_any (serves e.origin) J)
-        (λ t. ap (λ b. not b || eqb (count (serves e.origin) J) 1) t ∙ eq-eqb (count (serves e.origin) J) 1 (omega (arith, served_once e.origin, any_some (serves e.origin) J t)))
-        (λ f. ap (λ b. not b || eqb (count (serves e.origin) J) 1) f)),
-  )
+  pending_or_served part = total_same _ (λ e. 0) part (λ e. ap (λ b. bit (not b)) (one e)) ∙ total_zero part
+    where
+      one : (e : Event) → (is_pending J e || eqb (count (serves e.origin) J) 1) ≡ true
+      one e = by_cases (list_any (serves e.origin) J)
+          (λ t. rw (t, eq-eqb (count (serves e.origin) J) 1 (omega (arith, served_once e.origin, any_some (serves e.origin) J t))))
+          (λ f. rw f)
 
   same_itself : (m : Making) → same_making m m ≡ true
   same_itself m = and_both (eqb m.id m.id) _ (eqb_same m.id) (and_both (eqb m.plan m.plan) (same_origin m.event m.event) (eqb_same m.plan) (origin_same m.event))

@@ -58,25 +58,31 @@ pub record Moved (library : Library) (s : AgentState) (c : Call) (r : Reply) : T
   pub few : length r.result.changes ≤ most_changes
 
 module _ (library : Library) (s : AgentState) (w : WellFormed library s) where
-  -- the state stays
-  pub stays : (c : Call) (a : Answer) → Step library s.taken s.made c s.queue s.stacks a s.taken s.made s.queue s.stacks
-      → Moved library s c (reply a [] s)
+  -- a reply that reports no change
+  pub quiet : {c : Call} {a : Answer} {to : AgentState} {q q' : List Event} {ks ks' : List Intention} → to.beliefs ≡ s.beliefs
+      → Like s.queue q → Like s.stacks ks → Step library s.taken s.made c q ks a to.taken to.made q' ks'
+      → Like q' to.queue → Like ks' to.stacks → Moved library s c (reply a [] to)
   unfolding replay are_effective
-  stays c a x = record {
-    queue = s.queue;
-    queue' = s.queue;
-    stacks = s.stacks;
-    stacks' = s.stacks;
-    from_queue = like_refl s.queue;
-    from_stacks = like_refl s.stacks;
-    step = x;
-    to_queue = like_refl s.queue;
-    to_stacks = like_refl s.stacks;
-    beliefs = refl;
+  quiet {q = q} {q' = q'} {ks = ks} {ks' = ks'} same from_queue from_stacks step to_queue to_stacks = record {
+    queue = q;
+    queue' = q';
+    stacks = ks;
+    stacks' = ks';
+    from_queue = from_queue;
+    from_stacks = from_stacks;
+    step = step;
+    to_queue = to_queue;
+    to_stacks = to_stacks;
+    beliefs = same;
     table = w.table;
     effect = refl;
     few = omega arith;
   }
+
+  -- the state stays
+  pub stays : (c : Call) (a : Answer) → Step library s.taken s.made c s.queue s.stacks a s.taken s.made s.queue s.stacks
+      → Moved library s c (reply a [] s)
+  stays c a x = quiet refl (like_refl s.queue) (like_refl s.stacks) x (like_refl s.queue) (like_refl s.stacks)
 
   -- ---- Report
 
@@ -95,22 +101,16 @@ module _ (library : Library) (s : AgentState) (w : WellFormed library s) where
         go : (a b c d f : Bool) → leb kind told_kind ≡ a → is_ground l ≡ b → leb most_number s.taken ≡ c
             → leb most_external (count is_external s.queue) ≡ d
             → eqb (cond (not (a && b)) 5 (cond c 9 (cond d 7 (cond f 6 0)))) 0 ≡ true → Passed
-        go false b c d f p q x y e = both_ways e refl
-        go true false c d f p q x y e = both_ways e refl
-        go true true true d f p q x y e = both_ways e refl
-        go true true false true f p q x y e = both_ways e refl
         go true true false false f p q x y e = record { kind_ok = p; ground = q; taken_less = leb-false _ _ x; few = leb-false _ _ y }
+        go a b c d f p q x y e = both_ways e refl
 
     refusal_ok : is_refusal_for (report kind l) (report_refusal s kind l) ≡ true
     unfolding report_refusal is_refusal_for
     refusal_ok = go (not (is_reportable kind l)) (leb most_number s.taken) (leb most_external (count is_external s.queue)) (is_overfull s.beliefs kind l)
       where
         go : (a b c d : Bool) → is_refusal_for (report kind l) (cond a 5 (cond b 9 (cond c 7 (cond d 6 0)))) ≡ true
-        go true b c d = refl
-        go false true c d = refl
-        go false false true d = refl
         go false false false true = refl
-        go false false false false = refl
+        go a b c d = refl
 
     pub report-moved : Moved library s (report kind l) (reported s kind l)
     unfolding reported report_by take_in
@@ -186,71 +186,22 @@ module _ (library : Library) (s : AgentState) (w : WellFormed library s) where
         }
 
     close-moved : (o : Origin) → e.it.origin ≡ o → Moved library s cycle (close s e o)
-    unfolding close replay are_effective
-    close-moved (External n) p = record {
-      queue = e.it ∷ others;
-      queue' = others;
-      stacks = s.stacks;
-      stacks' = s.stacks;
-      from_queue = f.taken;
-      from_stacks = like_refl s.stacks;
-      step = Step.dropped n p unserved;
-      to_queue = like_refl others;
-      to_stacks = like_refl s.stacks;
-      beliefs = refl;
-      table = w.table;
-      effect = refl;
-      few = omega arith;
-    }
-    close-moved (Goal i st br) p = let k = poster (Goal i st br) p refl woken in record {
-      queue = e.it ∷ others;
-      queue' = others;
-      stacks = k.it ∷ k.ks;
-      stacks' = woken k.it ∷ k.ks;
-      from_queue = f.taken;
-      from_stacks = k.taken;
-      step = Step.unmet i st br p (p ∙ k.goal) k.asleep (subst (λ u. count (serves u) (live (k.it ∷ k.ks)) ≡ 0) (sym p) k.unserved);
-      to_queue = like_refl others;
-      to_stacks = k.changed;
-      beliefs = refl;
-      table = w.table;
-      effect = refl;
-      few = omega arith;
-    }
+    unfolding close replay
+    close-moved (External n) p = quiet refl f.taken (like_refl s.stacks) (Step.dropped n p unserved) (like_refl others) (like_refl s.stacks)
+    close-moved (Goal i st br) p =
+        let k = poster (Goal i st br) p refl woken in
+        let free = subst (λ u. count (serves u) (live (k.it ∷ k.ks)) ≡ 0) (sym p) k.unserved in
+        quiet refl f.taken k.taken (Step.unmet i st br p (p ∙ k.goal) k.asleep free) (like_refl others) k.changed
 
     make-moved : (chosen : Chosen) → Apt e.it.kind e.it.failed library.plans chosen → s.made < most_number → (o : Origin)
         → e.it.origin ≡ o → Moved library s cycle (make s chosen o)
-    unfolding make replay are_effective
-    make-moved chosen a m (External n) p = record {
-      queue = e.it ∷ others;
-      queue' = e.it ∷ others;
-      stacks = s.stacks;
-      stacks' = _;
-      from_queue = f.taken;
-      from_stacks = like_refl s.stacks;
-      step = Step.made_external chosen n p unserved a m (stacks_less (ap is_goal p));
-      to_queue = like_flip f.taken;
-      to_stacks = like_turn (_ ∷ []) s.stacks;
-      beliefs = refl;
-      table = w.table;
-      effect = refl;
-      few = omega arith;
-    }
-    make-moved chosen a m (Goal i st br) p = let k = poster (Goal i st br) p refl (pushed (new_instance s.made chosen)) in record {
-      queue = e.it ∷ others;
-      queue' = e.it ∷ others;
-      stacks = k.it ∷ k.ks;
-      stacks' = pushed (new_instance s.made chosen) k.it ∷ k.ks;
-      from_queue = f.taken;
-      from_stacks = k.taken;
-      step = Step.made_goal chosen i (goal_id k.it.top k.goal) (p ∙ k.goal) k.asleep (subst (λ u. count (serves u) (live (k.it ∷ k.ks)) ≡ 0) (sym p) k.unserved) a m;
-      to_queue = like_flip f.taken;
-      to_stacks = k.changed;
-      beliefs = refl;
-      table = w.table;
-      effect = refl;
-      few = omega arith;
-    }
+    unfolding make replay
+    make-moved chosen a m (External n) p =
+        quiet refl f.taken (like_refl s.stacks) (Step.made_external chosen n p unserved a m (stacks_less (ap is_goal p))) (like_flip f.taken) (like_turn (_ ∷ []) s.stacks)
+    make-moved chosen a m (Goal i st br) p =
+        let k = poster (Goal i st br) p refl (pushed (new_instance s.made chosen)) in
+        let free = subst (λ u. count (serves u) (live (k.it ∷ k.ks)) ≡ 0) (sym p) k.unserved in
+        quiet refl f.taken k.taken (Step.made_goal chosen i (goal_id k.it.top k.goal) (p ∙ k.goal) k.asleep free a m) (like_flip f.taken) k.changed
       where
         goal_id : (t : Instance) → Goal i st br ≡ goal_of t → i ≡ t.id
         goal_id t q = cc

@@ -1,5 +1,5 @@
 -- Every step leads from a well-formed state to a well-formed one: the facts, constructor by constructor.
-use Prim.Native.Nat.{ℕ, ◌+◌, ◌-◌, ◌<◌}
+use Prim.Native.Nat.{ℕ, ◌+◌, ◌-◌, ◌≤◌, ◌<◌}
 use mathlib.Core.Path.{◌≡◌, refl, sym, ap, ◌∙◌, subst}
 use mathlib.Core.List.{List, [], ◌∷◌}
 use mathlib.Core.Bool.{true, false, not}
@@ -38,7 +38,7 @@ use Rattle.model.specs.Try.{new_goal}
 use Rattle.model.specs.End.{marked}
 use Rattle.model.specs.Turn.{height_of}
 use Rattle.model.specs.WellFormed.{is_numbered, is_within, is_status, is_stack, is_served, is_goal_for}
-use Rattle.model.specs.Formed.{Acceptable, Sound, Stacked, Formed}
+use Rattle.model.specs.Formed.{Acceptable, Sound, Stacked, Local, Linked, Formed}
 use Rattle.model.proofs.OriginLaws.{same_origin_lem, goal_tried, eqb_same}
 use Rattle.situation.proofs.ChosenLaws.{Apt}
 use Rattle.model.proofs.InstanceLaws.{waiting-awake, waiting_idle, suspended_idle, tried-some, stack-both, Branching, past_sound}
@@ -72,6 +72,12 @@ pub retable : {library : Library} {b b' : List Literal} {q : List Event} {ks : L
 retable t i = record { table = t; local = i.local; linked = i.linked; few = i.few; stacked = i.stacked; taken_small = i.taken_small; made_small = i.made_small }
 
 module _ {library : Library} {b : List Literal} {n m : ℕ} where
+  -- other events and stacks, on the same beliefs and counts
+  with_parts : {q q' : List Event} {ks ks' : List Intention} → Formed library b q ks n m → Local library q' (live ks') n m → Linked library q' (live ks')
+      → length ks' ≤ most_stacks → Every is_stack ks' → Formed library b q' ks' n m
+  with_parts i local linked few stacked =
+      record { table = i.table; local = local; linked = linked; few = few; stacked = stacked; taken_small = i.taken_small; made_small = i.made_small }
+
   -- ---- Events
 
   taken_formed : {q : List Event} {ks : List Intention} (kind : ℕ) (l : Literal) → leb kind 2 ≡ true → is_ground l ≡ true → n < most_number
@@ -89,30 +95,17 @@ module _ {library : Library} {b : List Literal} {n m : ℕ} where
 
   dropped_formed : {e : Event} {q : List Event} {ks : List Intention} → is_goal e.origin ≡ false → count (serves e.origin) (live ks) ≡ 0
       → Formed library b (e ∷ q) ks n m → Formed library b q ks n m
-  dropped_formed {e} g z i = record {
-    table = i.table;
-    local = local_closed e i.local;
-    linked = LinkedLaws.link_dropped i.linked g z;
-    few = i.few;
-    stacked = i.stacked;
-    taken_small = i.taken_small;
-    made_small = i.made_small;
-  }
+  dropped_formed {e} g z i = with_parts i (local_closed e i.local) (LinkedLaws.link_dropped i.linked g z) i.few i.stacked
 
   unmet_formed : {e : Event} {q : List Event} {k : ℕ} {t : Instance} {below : List Instance} {ks : List Intention} → e.origin ≡ goal_of t
       → is_suspended t.status ≡ true
       → count (serves e.origin) (live (stack k t below ∷ ks)) ≡ 0 → Formed library b (e ∷ q) (stack k t below ∷ ks) n m
       → Formed library b q (stack k (awake t) below ∷ ks) n m
   unfolding live jobs_on
-  unmet_formed {e} {q} {k} {t} {below} {ks} p s z i = record {
-    table = i.table;
-    local = local_moved t (awake t) (event_on k below) refl (awake_sound t (first_sound i)) (local_closed e i.local);
-    linked = LinkedLaws.link_woken i.linked p s z;
-    few = i.few;
-    stacked = restacked (stack k t below) (stack k (awake t) below) ks i.stacked (awake_stacked k t (awake t) below (first_stacked i) refl);
-    taken_small = i.taken_small;
-    made_small = i.made_small;
-  }
+  unmet_formed {e} {q} {k} {t} {below} {ks} p s z i = with_parts i
+      (local_moved t (awake t) (event_on k below) refl (awake_sound t (first_sound i)) (local_closed e i.local))
+      (LinkedLaws.link_woken i.linked p s z) i.few
+      (restacked (stack k t below) (stack k (awake t) below) ks i.stacked (awake_stacked k t (awake t) below (first_stacked i) refl))
 
   -- ---- A new instance
 
@@ -172,15 +165,9 @@ module _ {library : Library} {b : List Literal} {n m : ℕ} where
     moved_formed : (v : Env) (a c : ℕ) (u : Status) → is_suspended u ≡ false → Sound library (moved t v a c u)
         → Formed library b q (stack k (moved t v a c u) below ∷ ks) n m
     unfolding live jobs_on
-    moved_formed v a c u f h = record {
-      table = i.table;
-      local = local_moved t (moved t v a c u) (event_on k below) refl h i.local;
-      linked = LinkedLaws.link_moved i.linked s v a c u f;
-      few = i.few;
-      stacked = restacked (stack k t below) (stack k (moved t v a c u) below) ks i.stacked (awake_stacked k t (moved t v a c u) below (first_stacked i) f);
-      taken_small = i.taken_small;
-      made_small = i.made_small;
-    }
+    moved_formed v a c u f h = with_parts i (local_moved t (moved t v a c u) (event_on k below) refl h i.local)
+        (LinkedLaws.link_moved i.linked s v a c u f) i.few
+        (restacked (stack k t below) (stack k (moved t v a c u) below) ks i.stacked (awake_stacked k t (moved t v a c u) below (first_stacked i) f))
 
     -- the branch just tried is the instance's
     latest : (x : Branch) → Branching library t x → (u : Status) → branch_of library (try_next u t) ≡ x
@@ -204,15 +191,10 @@ module _ {library : Library} {b : List Literal} {n m : ℕ} where
         and_both (is_of (goal_of y) (new_goal t x.kind g)) _ (same_origin_lem _ _ (goal_tried t Suspended))
         (and_both (eqb (branch_of library y).kind x.kind) _ (ap (λ z. eqb z.kind x.kind) l ∙ eqb_same x.kind)
         (ap (λ z. same (instantiate t.env z.literal) g) l ∙ equal_same _ _ (sym o.same_literal))) in
-        record {
-          table = i.table;
-          local = local_goal (new_goal t x.kind g) refl o.ground refl (local_moved t y (event_on k below) refl (tried_sound x h Suspended p) i.local);
-          linked = LinkedLaws.link_posted i.linked s (new_goal t x.kind g) (sym (goal_tried t Suspended)) fit;
-          few = i.few;
-          stacked = restacked (stack k t below) (stack k y below) ks i.stacked (record { asleep = (first_stacked i).asleep; height = (first_stacked i).height; room = λ z. o.low });
-          taken_small = i.taken_small;
-          made_small = i.made_small;
-        }
+        with_parts i
+        (local_goal (new_goal t x.kind g) refl o.ground refl (local_moved t y (event_on k below) refl (tried_sound x h Suspended p) i.local))
+        (LinkedLaws.link_posted i.linked s (new_goal t x.kind g) (sym (goal_tried t Suspended)) fit) i.few
+        (restacked (stack k t below) (stack k y below) ks i.stacked (record { asleep = (first_stacked i).asleep; height = (first_stacked i).height; room = λ z. o.low }))
 
   -- ---- The top ends
 
@@ -220,40 +202,21 @@ module _ {library : Library} {b : List Literal} {n m : ℕ} where
     failed_bottom_formed : External k ≡ e.origin → Formed library b (e ∷ q) (stack k t [] ∷ ks) n m
         → Formed library b (marked t.plan e ∷ q) ks n m
     unfolding live jobs_on
-    failed_bottom_formed g i = record {
-      table = i.table;
-      local = local_marked e t.plan (first_sound i).plan (local_popped t (External k) i.local);
-      linked = LinkedLaws.link_failed i.linked g s t.plan;
-      few = omega (arith, i.few);
-      stacked = omega (arith, i.stacked);
-      taken_small = i.taken_small;
-      made_small = i.made_small;
-    }
+    failed_bottom_formed g i = with_parts i (local_marked e t.plan (first_sound i).plan (local_popped t (External k) i.local))
+        (LinkedLaws.link_failed i.linked g s t.plan) (omega (arith, i.few)) (omega (arith, i.stacked))
 
     succeeded_bottom_formed : External k ≡ e.origin → Formed library b (e ∷ q) (stack k t [] ∷ ks) n m → Formed library b q ks n m
     unfolding live jobs_on
-    succeeded_bottom_formed g i = record {
-      table = i.table;
-      local = local_closed e (local_popped t (External k) i.local);
-      linked = LinkedLaws.link_closed i.linked g s (ap is_goal (sym g));
-      few = omega (arith, i.few);
-      stacked = omega (arith, i.stacked);
-      taken_small = i.taken_small;
-      made_small = i.made_small;
-    }
+    succeeded_bottom_formed g i = with_parts i (local_closed e (local_popped t (External k) i.local))
+        (LinkedLaws.link_closed i.linked g s (ap is_goal (sym g))) (omega (arith, i.few)) (omega (arith, i.stacked))
 
     failed_above_formed : {c : Instance} {below : List Instance} → goal_of c ≡ e.origin → Formed library b (e ∷ q) (stack k t (c ∷ below) ∷ ks) n m
         → Formed library b (marked t.plan e ∷ q) (stack k c below ∷ ks) n m
     unfolding live jobs_on
-    failed_above_formed {c} {below} g i = record {
-      table = i.table;
-      local = local_marked e t.plan (first_sound i).plan (local_popped t (goal_of c) i.local);
-      linked = LinkedLaws.link_failed i.linked g s t.plan;
-      few = i.few;
-      stacked = restacked (stack k t (c ∷ below)) (stack k c below) ks i.stacked (lower k t c below (first_stacked i));
-      taken_small = i.taken_small;
-      made_small = i.made_small;
-    }
+    failed_above_formed {c} {below} g i = with_parts i
+        (local_marked e t.plan (first_sound i).plan (local_popped t (goal_of c) i.local))
+        (LinkedLaws.link_failed i.linked g s t.plan) i.few
+        (restacked (stack k t (c ∷ below)) (stack k c below) ks i.stacked (lower k t c below (first_stacked i)))
 
     succeeded_above_formed : {c : Instance} {below : List Instance} → Acceptable library → goal_of c ≡ e.origin → is_suspended c.status ≡ true
         → Formed library b (e ∷ q) (stack k t (c ∷ below) ∷ ks) n m → Formed library b q (stack k (past_branch library c) below ∷ ks) n m
@@ -262,15 +225,10 @@ module _ {library : Library} {b : List Literal} {n m : ℕ} where
         let l = local_popped t (goal_of c) i.local in
         let h = lower k t c below (first_stacked i) in
         let x = top_sound c (event_on k below) l in
-        record {
-          table = i.table;
-          local = local_closed e (local_moved c (past_branch library c) (event_on k below) refl (past_sound library r c x (tried-some c.tried _ c.status x.status (suspended_idle c.status w)) c.env x.env) l);
-          linked = LinkedLaws.link_past i.linked g s (sym g) w c.env (branch_of library c).next 0 Active refl;
-          few = i.few;
-          stacked = restacked (stack k t (c ∷ below)) (stack k (past_branch library c) below) ks i.stacked (awake_stacked k c (past_branch library c) below h refl);
-          taken_small = i.taken_small;
-          made_small = i.made_small;
-        }
+        with_parts i
+        (local_closed e (local_moved c (past_branch library c) (event_on k below) refl (past_sound library r c x (tried-some c.tried _ c.status x.status (suspended_idle c.status w)) c.env x.env) l))
+        (LinkedLaws.link_past i.linked g s (sym g) w c.env (branch_of library c).next 0 Active refl) i.few
+        (restacked (stack k t (c ∷ below)) (stack k (past_branch library c) below) ks i.stacked (awake_stacked k c (past_branch library c) below h refl))
 
 -- ---- Every step
 

@@ -15,7 +15,7 @@ use Rattle.library.specs.declared.Branch.{Branch}
 use Rattle.library.specs.Plan.{Library, no_branch}
 use Rattle.model.specs.declared.Instance.{Instance}
 use Rattle.model.specs.declared.Status.{Status}
-use Rattle.model.specs.declared.Status.TheVariants.{Active, Waiting, Suspended}
+use Rattle.model.specs.declared.Status.TheVariants.{Active, Suspended}
 use Rattle.model.specs.State.{most_height, Intention}
 use Rattle.model.specs.Instance.{is_active, is_waiting, is_suspended, plan_of, branches_of, branch_of, step_to}
 use Rattle.model.specs.Turn.{Move, fails, succeeds, tries, move_by, height_of}
@@ -25,40 +25,32 @@ use Rattle.model.specs.Formed.{Acceptable, Sound, Stacked}
 -- ---- Statuses
 
 pub active_awake : (s : Status) → is_active s ≡ true → is_suspended s ≡ false
-active_awake Active e = refl
-active_awake Waiting e = refl
 active_awake Suspended e = sym e
+active_awake s e = refl
 
 pub waiting-awake : (s : Status) → is_waiting s ≡ true → is_suspended s ≡ false
-waiting-awake Active e = refl
-waiting-awake Waiting e = refl
 waiting-awake Suspended e = sym e
+waiting-awake s e = refl
 
 pub waiting_idle : (s : Status) → is_waiting s ≡ true → is_active s ≡ false
 waiting_idle Active e = sym e
-waiting_idle Waiting e = refl
-waiting_idle Suspended e = refl
+waiting_idle s e = refl
 
 pub suspended_idle : (s : Status) → is_suspended s ≡ true → is_active s ≡ false
 suspended_idle Active e = sym e
-suspended_idle Waiting e = refl
-suspended_idle Suspended e = refl
+suspended_idle s e = refl
 
 -- who waits or is suspended has tried a branch
 pub tried-some : (n kind : ℕ) (s : Status) → is_status n kind s ≡ true → is_active s ≡ false → 0 < n
 unfolding is_status
 tried-some n kind Active e a = both_ways refl a
-tried-some n kind Waiting e a = ltb-true 0 n (and_parts (ltb 0 n) _ e).0
-tried-some n kind Suspended e a = ltb-true 0 n (and_parts (ltb 0 n) _ e).0
+tried-some n kind s e a = ltb-true 0 n (and_parts (ltb 0 n) _ e).0
 
 -- ---- The rules for an instance
 
 pub sound_both : (library : Library) (x : Instance) → Sound library x → is_sound library x ≡ true
 unfolding is_sound
-sound_both library x s =
-    and_both (ltb x.plan (length library.plans)) _ (lt-ltb _ _ s.plan)
-    (and_both (ltb x.state (length (plan_of library x).states)) _ (lt-ltb _ _ s.state)
-    (and_both (leb x.tried (length (branches_of library x))) _ (le-leb _ _ s.tried) (and_both (is_env x.env) _ s.env s.status)))
+sound_both library x s = rw (lt-ltb _ _ s.plan, lt-ltb _ _ s.state, le-leb _ _ s.tried, s.env, s.status)
 
 pub sound_parts : (library : Library) (x : Instance) → is_sound library x ≡ true → Sound library x
 unfolding is_sound
@@ -112,12 +104,10 @@ module _ (library : Library) (r : Acceptable library) (x : Instance) (s : Sound 
     where
       go : (m e l : Bool) → leb (length (branches_of library x)) x.tried ≡ l
           → MoveOk library x (cond (not m) fails (cond e succeeds (cond l fails (tries (get_or (branches_of library x) x.tried no_branch)))))
-      go false e l p = tt
-      go true true l p = tt
-      go true false true p = tt
       go true false false p =
           let low = leb-false (length (branches_of library x)) x.tried p in
           record { untried = low; here = refl; up = r.upward x.plan x.state x.tried s.plan low; inside = r.inside x.plan x.state x.tried s.plan low }
+      go m e l p = tt
 
   -- ---- Past the last branch
 

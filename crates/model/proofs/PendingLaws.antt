@@ -20,13 +20,12 @@ use Rattle.lists.proofs.TestCounts.{any_none, any_some, none_any}
 use Rattle.literal.specs.declared.Literal.{Literal}
 use Rattle.library.specs.Plan.{Library}
 use Rattle.model.specs.declared.Event.{Event}
-use Rattle.model.specs.declared.Origin.{Origin}
 use Rattle.model.specs.State.{Intention, most_stacks, no_event}
 use Rattle.model.specs.Instance.{is_suspended}
-use Rattle.model.specs.Live.{is_goal, same_origin, is_of, Job, live, serves, is_pending, is_ready, is_poster}
+use Rattle.model.specs.Live.{is_goal, is_of, Job, live, serves, is_pending, is_ready, is_poster}
 use Rattle.model.specs.WellFormed.{is_served}
 use Rattle.model.specs.Formed.{Formed}
-use Rattle.model.proofs.OriginLaws.{origin_equal, origin_same, same_origin_lem, origin_turned}
+use Rattle.model.proofs.OriginLaws.{origin_same, same_turned}
 use Rattle.model.proofs.FormedLaws.{reform, poster_found}
 
 -- ---- How many are pending
@@ -37,11 +36,6 @@ unfolding is_pending
 pending_or_served jobs e once = by_cases (list_any (serves e.origin) jobs)
     (λ t. omega (arith, ap (λ b. bit (not b)) t, any_some (serves e.origin) jobs t))
     (λ f. omega (arith, ap (λ b. bit (not b)) f, any_none (serves e.origin) jobs f))
-
-turned : (o u : Origin) → bit (same_origin o u) ≡ bit (same_origin u o)
-turned o u = by_cases (same_origin o u)
-    (λ t. ap bit (t ∙ sym (same_origin_lem u o (sym (origin_equal o u t)))))
-    (λ f. ap bit (f ∙ sym (origin_turned o u f)))
 
 module _ {library : Library} {b : List Literal} {q : List Event} {ks : List Intention} {n m : ℕ} (i : Formed library b q ks n m) where
   -- each live instance serves one queued event
@@ -65,7 +59,7 @@ module _ {library : Library} {b : List Literal} {q : List Event} {ks : List Inte
       let parts = total-add (λ e. bit (is_pending (live ks) e)) (λ e. count (serves e.origin) (live ks)) q in
       let swapped = total_swap (λ e j. bit (serves e.origin j)) q (live ks) in
       let as-served = total_same (λ j. total (λ e. bit (serves e.origin j)) q) (λ j. count (is_of j.event) q) (live ks)
-      (λ j. total_same (λ e. bit (serves e.origin j)) (λ e. bit (is_of j.event e)) q (λ e. turned e.origin j.event)) in
+      (λ j. total_same (λ e. bit (serves e.origin j)) (λ e. bit (is_of j.event e)) q (λ e. ap bit (same_turned e.origin j.event))) in
       omega (arith, by-event, parts, swapped, as-served, served_one, total-length q)
 
   -- ---- None may be taken up

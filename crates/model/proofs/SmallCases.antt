@@ -2,7 +2,6 @@
 use mathlib.Core.Path.{◌≡◌, refl}
 use mathlib.Core.List.{map}
 use lib.Count.{ones}
-use Rattle.std.specs.List.{list_any, list_all}
 use Rattle.lists.specs.Search.{distinct, position}
 use Rattle.lists.specs.Places.{first, change_at}
 use Rattle.literal.specs.Literal.{is_ground, same, opposite}

@@ -7,7 +7,6 @@ use mathlib.Core.Bool.{Bool, true, false}
 use native.Mathlib.Omega.{arith}
 use lib.Dec.{eqb}
 use lib.ListN.{length}
-use Rattle.std.specs.List.{list_any}
 use Rattle.lists.specs.Gap.{remove_at}
 use Rattle.lists.specs.Counts.{count}
 use Rattle.lists.specs.Places.{Placed, first}
@@ -42,7 +41,7 @@ use Rattle.model.proofs.InstanceLaws.{active_awake, Branching, MoveOk, move_ok}
 use Rattle.model.proofs.TryLaws.{TryOk, attempt_ok}
 use Rattle.model.proofs.FormedLaws.{stack, reform, beliefs_ground, first_sound, first_stacked, first_served}
 use Rattle.model.proofs.Step.{Step}
-use Rattle.model.proofs.EventWalk.{Moved, stays, report-moved, literal_ground, take_up-moved}
+use Rattle.model.proofs.EventWalk.{Moved, quiet, stays, report-moved, literal_ground, take_up-moved}
 
 module _ (library : Library) (r : Acceptable library) (s : AgentState) (w : WellFormed library s) where
   -- ---- A stack that was found, put first
@@ -59,21 +58,8 @@ module _ (library : Library) (r : Acceptable library) (s : AgentState) (w : Well
     tried-moved : is_suspended k.it.top.status ≡ false → (b : Branch) → Branching library k.it.top b → (t : Try)
         → TryOk s.beliefs (height_of k.it) k.it.top.env b t → Moved library s cycle (tried s k b t)
     unfolding tried replay are_effective
-    tried-moved a b h Try.missed o = record {
-      queue = s.queue;
-      queue' = s.queue;
-      stacks = k.it ∷ others;
-      stacks' = _;
-      from_queue = like_refl s.queue;
-      from_stacks = f.taken;
-      step = Step.missed b a h;
-      to_queue = like_refl s.queue;
-      to_stacks = like_turn (_ ∷ []) others;
-      beliefs = refl;
-      table = w.table;
-      effect = refl;
-      few = omega arith;
-    }
+    tried-moved a b h Try.missed o =
+        quiet library s w refl (like_refl s.queue) f.taken (Step.missed b a h) (like_refl s.queue) (like_turn (_ ∷ []) others)
     tried-moved a b h (Try.stepped env changes) o = record {
       queue = s.queue;
       queue' = s.queue;
@@ -89,36 +75,10 @@ module _ (library : Library) (r : Acceptable library) (s : AgentState) (w : Well
       effect = o.effect;
       few = omega (arith, o.few);
     }
-    tried-moved a b h (Try.done l) o = record {
-      queue = s.queue;
-      queue' = s.queue;
-      stacks = k.it ∷ others;
-      stacks' = _;
-      from_queue = like_refl s.queue;
-      from_stacks = f.taken;
-      step = Step.done b l a h o;
-      to_queue = like_refl s.queue;
-      to_stacks = like_turn (_ ∷ []) others;
-      beliefs = refl;
-      table = w.table;
-      effect = refl;
-      few = omega arith;
-    }
-    tried-moved a b h (Try.posted g) o = record {
-      queue = s.queue;
-      queue' = _;
-      stacks = k.it ∷ others;
-      stacks' = _;
-      from_queue = like_refl s.queue;
-      from_stacks = f.taken;
-      step = Step.posted b g a h o;
-      to_queue = like_turn (_ ∷ []) s.queue;
-      to_stacks = like_turn (_ ∷ []) others;
-      beliefs = refl;
-      table = w.table;
-      effect = refl;
-      few = omega arith;
-    }
+    tried-moved a b h (Try.done l) o =
+        quiet library s w refl (like_refl s.queue) f.taken (Step.done b l a h o) (like_refl s.queue) (like_turn (_ ∷ []) others)
+    tried-moved a b h (Try.posted g) o =
+        quiet library s w refl (like_refl s.queue) f.taken (Step.posted b g a h o) (like_turn (_ ∷ []) s.queue) (like_turn (_ ∷ []) others)
 
     -- ---- It ends
 
@@ -208,36 +168,12 @@ module _ (library : Library) (r : Acceptable library) (s : AgentState) (w : Well
       → Moved library s (outcome id worked) (outcome_by library s worked k)
   unfolding outcome_by replay are_effective is_refusal_for
   outcome-moved id worked None g = stays library s w (outcome id worked) _ (Step.refused 8 refl)
-  outcome-moved id true (Some k) g = record {
-    queue = s.queue;
-    queue' = s.queue;
-    stacks = k.it ∷ remove_at k.place s.stacks;
-    stacks' = _;
-    from_queue = like_refl s.queue;
-    from_stacks = g.taken;
-    step = Step.worked (and_parts (eqb id k.it.top.id) (is_waiting k.it.top.status) g.passes).1;
-    to_queue = like_refl s.queue;
-    to_stacks = g.changed _;
-    beliefs = refl;
-    table = w.table;
-    effect = refl;
-    few = omega arith;
-  }
-  outcome-moved id false (Some k) g = record {
-    queue = s.queue;
-    queue' = s.queue;
-    stacks = k.it ∷ remove_at k.place s.stacks;
-    stacks' = _;
-    from_queue = like_refl s.queue;
-    from_stacks = g.taken;
-    step = Step.not_worked_lem (and_parts (eqb id k.it.top.id) (is_waiting k.it.top.status) g.passes).1;
-    to_queue = like_refl s.queue;
-    to_stacks = g.changed _;
-    beliefs = refl;
-    table = w.table;
-    effect = refl;
-    few = omega arith;
-  }
+  outcome-moved id true (Some k) g =
+      let waits = (and_parts (eqb id k.it.top.id) (is_waiting k.it.top.status) g.passes).1 in
+      quiet library s w refl (like_refl s.queue) g.taken (Step.worked waits) (like_refl s.queue) (g.changed _)
+  outcome-moved id false (Some k) g =
+      let waits = (and_parts (eqb id k.it.top.id) (is_waiting k.it.top.status) g.passes).1 in
+      quiet library s w refl (like_refl s.queue) g.taken (Step.not_worked_lem waits) (like_refl s.queue) (g.changed _)
 
   -- ---- Every call
 

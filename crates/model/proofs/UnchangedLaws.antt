@@ -60,9 +60,7 @@ module _ (library : Library) (s : AgentState) where
   tried-unchanged : (k : Placed Intention) (b : Branch) (t : Try) → Unchanged s (tried s k b t)
   unfolding tried
   tried-unchanged k b Try.missed e = both_ways e refl
-  tried-unchanged k b (Try.stepped env changes) e = both_ways e refl
-  tried-unchanged k b (Try.done l) e = both_ways e refl
-  tried-unchanged k b (Try.posted l) e = both_ways e refl
+  tried-unchanged k b t e = both_ways e refl
 
   turn-unchanged : (k : Placed Intention) (m : Move) → Unchanged s (turn_by library s k m)
   unfolding turn_by fail succeed end_top

@@ -1,6 +1,6 @@
 -- The test for well-formed states and the facts say the same: each part of the test is the count that the facts speak of.
 use Prim.Native.Nat.{ℕ, ◌^◌, ◌≤◌}
-use mathlib.Core.Path.{◌≡◌, refl, ap, ◌∙◌, subst}
+use mathlib.Core.Path.{◌≡◌, refl, sym, ap, ◌∙◌, subst}
 use mathlib.Core.List.{List, [], ◌∷◌}
 use mathlib.Core.Logic.{◌↔◌}
 use mathlib.Core.Bool.{Bool, true, false, ◌&&◌, ◌||◌, not}
@@ -12,7 +12,8 @@ use Rattle.std.specs.List.{list_any, list_all}
 use Rattle.lists.specs.Search.{distinct}
 use Rattle.lists.specs.Counts.{bit, count, Every}
 use Rattle.lists.proofs.BoolLaws.{by_cases, both_ways, and_parts, and_both}
-use Rattle.lists.proofs.CountLaws.{bit_left, bit_right, bit_every, bit_le_one, total_le, total_zero, count_less}
+use Rattle.lists.proofs.AndLaws.{all_both}
+use Rattle.lists.proofs.CountLaws.{bit_left, bit_right, total_le, total_zero, count_less}
 use Rattle.lists.proofs.TestCounts.{all_every, every_all, any_some, some-any, distinct_once, once_distinct}
 use Rattle.literal.specs.Literal.{is_ground}
 use Rattle.belief.specs.Beliefs.{are_beliefs}
@@ -31,26 +32,16 @@ use Rattle.model.proofs.OriginLaws.{eqb_same, origin_equal, origin_same}
 -- ---- Tests of two parts, over a list
 
 both_every : {A : Type 0} (p q : A → Bool) (xs : List A) → Every p xs → Every q xs → Every (λ x. p x && q x) xs
-both_every p q [] h k = refl
-both_every p q (x ∷ xs) h k = omega (
-  arith,
-  both_every p q xs (omega arith) (omega arith),
-  ap (λ b. bit (not b)) (and_both (p x) (q x) (bit_every (p x) (omega arith)) (bit_every (q x) (omega arith))),
-)
+both_every p q xs h k = all_every _ xs (all_both p q xs ∙ and_both (list_all p xs) (list_all q xs) (every_all p xs h) (every_all q xs k))
+
+every_parts : {A : Type 0} (p q : A → Bool) (xs : List A) → Every (λ x. p x && q x) xs → (list_all p xs ≡ true) × (list_all q xs ≡ true)
+every_parts p q xs h = and_parts (list_all p xs) (list_all q xs) (sym (all_both p q xs) ∙ every_all _ xs h)
 
 left_every : {A : Type 0} (p q : A → Bool) (xs : List A) → Every (λ x. p x && q x) xs → Every p xs
-left_every p q xs h = count_less (λ x. not (p x)) (λ x. not (p x && q x)) xs h (λ x. go (p x) (q x))
-  where
-    go : (a b : Bool) → bit (not a) ≤ bit (not (a && b))
-    go true b = omega arith
-    go false b = omega arith
+left_every p q xs h = all_every p xs (every_parts p q xs h).0
 
 right_every : {A : Type 0} (p q : A → Bool) (xs : List A) → Every (λ x. p x && q x) xs → Every q xs
-right_every p q xs h = count_less (λ x. not (q x)) (λ x. not (p x && q x)) xs h (λ x. go (p x) (q x))
-  where
-    go : (a b : Bool) → bit (not b) ≤ bit (not (a && b))
-    go true b = omega arith
-    go false b = bit_le_one (not b)
+right_every p q xs h = all_every q xs (every_parts p q xs h).1
 
 -- ---- Goals and their posters
 
@@ -154,10 +145,16 @@ module _ (library : Library) (s : AgentState) where
 
   pub formed_test : WellFormed library s → is_well_formed library s ≡ true
   unfolding is_well_formed are_events is_event_sound are_instances is_instance are_served
-  formed_test w =
-      and_both (are_beliefs s.beliefs) _ w.table (and_both (leb s.taken most_number) _ (le-leb _ _ w.taken_small) (and_both (leb s.made most_number) _ (le-leb _ _ w.made_small)
-      (and_both (are_events library s.taken s.queue) _ events (and_both (are_instances library s.made J) _ instances
-      (and_both (leb (length s.stacks) most_stacks) _ (le-leb _ _ w.few) (and_both (list_all is_stack s.stacks) _ (every_all is_stack s.stacks w.stacked) services))))))
+  formed_test w = rw (
+    w.table,
+    le-leb _ _ w.taken_small,
+    le-leb _ _ w.made_small,
+    events,
+    instances,
+    le-leb _ _ w.few,
+    every_all is_stack s.stacks w.stacked,
+    services,
+  )
     where
       events : are_events library s.taken s.queue ≡ true
       events =

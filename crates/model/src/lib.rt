@@ -128,6 +128,7 @@ pub enum Answer {
 }
 
 // A result: the answer, and beside it the belief changes that took effect, in order, the first `count` of the array.
+// An array with its count: memory is fixed, and it is a required form (docs/DECISIONS.md, form 5).
 #[derive(Clone, Copy)]
 pub struct Answered {
     pub answer: Answer,

@@ -9,6 +9,7 @@ use model::{Event, Number, Origin};
 use state::{Stack, State, queue};
 
 // The queue keeps its events; takes one more; loses the one at a place or of an origin; or a plan has failed for the one of an origin.
+// A value, since a step is decided before anything moves and the specifications speak of it; a closure that is handed out would be boxed.
 #[derive(Clone, Copy)]
 pub enum QueueMove {
     Keep,
@@ -19,7 +20,7 @@ pub enum QueueMove {
 }
 
 // The stacks stay; one is opened, last in turn; one stands in the place of another; one goes last in turn, in place of the one at a place;
-// or the one at a place goes.
+// or the one at a place goes. A value for the same reason.
 #[derive(Clone, Copy)]
 pub enum StackMove {
     Keep,
@@ -29,7 +30,7 @@ pub enum StackMove {
     Remove(usize),
 }
 
-// The numbers stay, or an external event was taken or an instance made under a number.
+// The numbers stay, or an external event was taken or an instance made under a number. A value for the same reason.
 #[derive(Clone, Copy)]
 pub enum Numbering {
     Keep,

@@ -10,6 +10,7 @@ use lib.ListN.{length, length-append}
 use borrow.Author.Tests.{lt-ltb, le-ltb, ltb-true, ltb-false}
 use Rattle.lists.proofs.BoolLaws.{by_cases}
 use Rattle.printing.specs.Decimal.{last_digit, decimal_by, decimal, value_from, value, last_two, last_four}
+use Rattle.writing.proofs.WritingLaws.{widen, written}
 
 -- ---- The text of a number, by its size
 
@@ -101,12 +102,6 @@ four_low n =
     let low : n % 10000 % 100 ≡ n % 100 = omega arith in
     ap₂ (λ (s t : List ℕ). s ++ t) (ap last_two high ∙ two_low (n / 100)) (sym (two_low (n % 10000)) ∙ ap last_two low ∙ two_low n)
 
-pub two_digits : (n : ℕ) → n < 100 → (48 + n / 10) ∷ (48 + n % 10) ∷ [] ≡ last_two n
-two_digits n h = let t : 48 + n / 10 ≡ last_digit (n / 10) = omega arith in rw t
-
-pub four_digits : (n : ℕ) → last_two (n / 100) ++ last_two (n % 100) ≡ last_four n
-four_digits n = ap (λ (l : List ℕ). last_two (n / 100) ++ l) (two_low n)
-
 pub from_hundreds : (n : ℕ) → 100 ≤ n → decimal (n / 100) ++ last_two (n % 100) ≡ decimal n
 from_hundreds n h = ap (λ (l : List ℕ). decimal (n / 100) ++ l) (two_low n) ∙ sym (hundreds n h)
 
@@ -122,3 +117,6 @@ many-digits n h =
     let q : n / 100000000 ≡ n / 10000 / 10000 = omega arith in
     ap (λ (m : ℕ). decimal m ++ last_four (n / 10000 % 10000) ++ last_four (n % 10000)) q
     ∙ ap (λ (l : List ℕ). l ++ last_four (n % 10000)) (from_myriads (n / 10000) (omega arith)) ∙ from_myriads n (omega arith)
+
+-- a number of one digit or two, as it is written
+pub ruleset short = (widen, written, decimal_small, decimal_two)

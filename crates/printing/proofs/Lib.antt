@@ -1,6 +1,5 @@
 pub mod DecimalLaws
 pub mod TextLaws
-pub mod TryLaws
 pub mod LineLaws
 pub mod ReadBack
 pub mod LineInjective

@@ -17,7 +17,7 @@ use Rattle.model.specs.declared.Answer.TheVariants.{Taken, Idle, Dropped, Unmet,
 use Rattle.model.specs.Lines.{number, letter_of, fields_of}
 use Rattle.printing.specs.LineText.{space, number_text, literal_text, field_text, change_text, answer_text, fits_change, most_change}
 use Rattle.writing.specs.Writing.{Wrote}
-use Rattle.writing.proofs.WritingLaws.{then, widen, written}
+use Rattle.writing.proofs.WritingLaws.{then, nothing, widen, written}
 
 -- ---- The letter and its fields
 
@@ -82,6 +82,14 @@ module _ {answer : Answer} where
   pub refused : {n : ℕ} → answer ≡ Refused n → 88 ∷ each field_text (number n ∷ []) ≡ answer_text answer
   unfolding answer_text letter_of fields_of
   refused same = rw same
+
+-- a letter, then one field
+pub ruleset lettered = (then, nothing)
+
+-- the answers that are written as one part: those that are tries, and the others
+pub ruleset tried = (widen, written, missed, posted)
+
+pub ruleset answered = (widen, written, taken, idle, made_external, made_goal, succeeded, failed, refused)
 
 -- ---- The changes
 

@@ -1,8 +1,8 @@
 // A result to its line of the journal, into a lent buffer.
 #![tactic(auto)]
 
-ghost use Rattle.std.specs.Prelude.{◌≡◌, true, ◌+◌, ◌*◌, ◌≤◌, ◌<◌, min, ◌∷◌, [], ◌++◌, length, take};
-ghost use Rattle.model.specs.State.{most_changes, view_result};
+ghost use Rattle.std.specs.Prelude.{◌≡◌, true, ◌+◌, ◌*◌, ◌≤◌, ◌<◌, ◌∷◌, [], ◌++◌, length};
+ghost use Rattle.model.specs.State.{view_result};
 ghost use Rattle.lists.specs.Counts.{each};
 ghost use Rattle.std.specs.List.{list_all};
 ghost use Rattle.model.specs.Lines.{M, number, fields_of};
@@ -61,6 +61,7 @@ fn put_four(out: &mut [u8], at: usize, n: u16) -> usize
 }
 
 // One digit or two.
+#[tactic(auto, using(crate::proofs::DecimalLaws::short))]
 fn put_short(out: &mut [u8], at: usize, n: u16) -> usize
     requires { (n < 100) × (at + 2 ≤ length out.old) }
     ensures { Wrote 2 out.old out.new at result (decimal n) }
@@ -87,6 +88,7 @@ fn put_decimal(out: &mut [u8], at: usize, n: u16) -> usize
 }
 
 // A byte, as a space or a sign, and a number.
+#[tactic(auto, using(writing::proofs::WritingLaws::then))]
 fn put_number(out: &mut [u8], at: usize, lead: u8, n: u16) -> usize
     requires { at + 6 ≤ length out.old }
     ensures { Wrote 6 out.old out.new at result (lead ∷ decimal n) }
@@ -113,6 +115,7 @@ fn put_wide(out: &mut [u8], at: usize, n: u32) -> usize
 }
 
 // A space and a number of up to ten digits.
+#[tactic(auto, using(writing::proofs::WritingLaws::then))]
 fn put_field(out: &mut [u8], at: usize, n: u32) -> usize
     requires { at + 11 ≤ length out.old }
     ensures { Wrote 11 out.old out.new at result (number_text n) }
@@ -148,6 +151,7 @@ fn letter_of(removes: bool) -> u8
     if removes { b'r' } else { b'a' }
 }
 
+#[tactic(auto, using(writing::proofs::WritingLaws::then), unfolding(crate::specs::LineText::change_text))]
 fn put_change(out: &mut [u8], at: usize, c: Change) -> usize
     requires { at + most_change ≤ length out.old }
     ensures wrote { Wrote most_change out.old out.new at result (change_text c) }
@@ -160,14 +164,14 @@ fn put_change(out: &mut [u8], at: usize, c: Change) -> usize
     put_literal(out, b, l)
 }
 
-// The first n changes.
-fn put_changes(out: &mut [u8], at: usize, changes: [Change; MOST_CHANGES], n: usize) -> usize
-    requires { (n ≤ most_changes) × (at + most_change * most_changes ≤ length out.old) }
-    ensures wrote { Wrote (most_change * most_changes) out.old out.new at result (each change_text (take n changes)) }
-    ensures fits { list_all fits_change (take n changes) ≡ true }
+// A loop of its own beside image's over events and stacks: a shared one would take an item's writer, and prove its contract at each call.
+fn put_changes(out: &mut [u8], at: usize, changes: &[Change]) -> usize
+    requires { at + most_change * length changes.now ≤ length out.old }
+    ensures wrote { Wrote (most_change * length changes.now) out.old out.new at result (each change_text changes.now) }
+    ensures fits { list_all fits_change changes.now ≡ true }
 {
     let mut o = at;
-    for c in &changes[..n] {
+    for c in changes {
         o = put_change(out, o, *c);
     }
     o
@@ -175,6 +179,7 @@ fn put_changes(out: &mut [u8], at: usize, changes: [Change; MOST_CHANGES], n: us
 
 // ---- The letter and its fields
 
+#[tactic(auto, using(crate::proofs::TextLaws::lettered), unfolding(crate::specs::LineText::field_text))]
 fn put_one(out: &mut [u8], at: usize, letter: u8, n: Number) -> usize
     requires { at + 12 ≤ length out.old }
     ensures { Wrote 12 out.old out.new at result (letter ∷ each field_text (number n ∷ [])) }
@@ -217,6 +222,7 @@ fn put_made(out: &mut [u8], at: usize, instance: Number, plan: u16, word: u8, n:
 }
 
 // S, B, D and G: what came of a branch.
+#[tactic(auto, using(crate::proofs::TextLaws::tried), unfolding(model::specs::Lines::fields_of))]
 fn put_try(out: &mut [u8], at: usize, answer: Answer) -> usize
     requires is_a_try { is_try answer ≡ true }
     requires room { at + most_fields ≤ length out.old }
@@ -256,6 +262,7 @@ fn put_try(out: &mut [u8], at: usize, answer: Answer) -> usize
     }
 }
 
+#[tactic(auto, using(crate::proofs::TextLaws::answered), unfolding(model::specs::Lines::fields_of))]
 fn put_answer(out: &mut [u8], at: usize, answer: Answer) -> usize
     requires { at + most_fields ≤ length out.old }
     ensures wrote { Wrote most_fields out.old out.new at result (answer_text answer) }
@@ -297,6 +304,7 @@ fn put_answer(out: &mut [u8], at: usize, answer: Answer) -> usize
 // ---- The line
 
 // The line of a result, with its newline, from `at` on; where there is no room for the longest line, nothing.
+#[tactic(auto, using(crate::proofs::LineLaws::unprinted))]
 pub fn print_result(out: &mut [u8], at: usize, r: Answered) -> usize
     ensures { Prints out.old out.new at result (view_result r) }
 {
@@ -307,11 +315,9 @@ pub fn print_result(out: &mut [u8], at: usize, r: Answered) -> usize
     if room - MOST_LINE < at {
         return at;
     }
-    let answer = r.answer;
-    let changes = r.changes;
     let n = r.count.min(MOST_CHANGES);
-    let a = put_answer(out, at, answer);
-    let b = put_changes(out, a, changes, n);
+    let a = put_answer(out, at, r.answer);
+    let b = put_changes(out, a, &r.changes[..n]);
     put(out, b, b'\n')
 }
 

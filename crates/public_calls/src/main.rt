@@ -1,16 +1,17 @@
 // Each public call on small inputs: document 01's journal by the three calls, a ledger's copy beside it, plan part and its companion.
 #![tactic(auto)]
 
+ghost use Rattle.std.specs.Prelude.{◌≤◌, length};
+
 use agent::{Replied, calls};
 use belief::Beliefs;
 use literal::Literal;
 use load::Agent;
 use model::{Answer, Answered};
 use refusals::Refusal;
+use std::io::Read;
 use steps::answer::plain_result;
-
-// How many bytes a buffer has: more than the library, and more than any line.
-const BUFFER: usize = 65536;
+use transfer::BUFFER;
 
 // Writes a result's line.
 fn print<P: Print>(to: &P, res: Answered) {
@@ -38,6 +39,18 @@ impl<'a, P: Print> Books<'a, P> {
         let agent = load::load(library)?;
         let copy = agent.state.beliefs;
         Ok(Books { to, agent, copy })
+    }
+
+    // The books of an agent whose library has no bytes: it is not well formed.
+    fn open_unformed(to: &'a P) -> Result<Books<'a, P>, Refusal> {
+        let mut books = Books::open(to, &[0; 4])?;
+        books.agent.length = 0;
+        Ok(books)
+    }
+
+    // The books that the journal is made with: of a library that is refused there is no agent.
+    fn open_any(to: &'a P, library: &[u8]) -> Result<Books<'a, P>, Refusal> {
+        Books::open(to, library).or_else(|_| Books::open_unformed(to))
     }
 
     // The answer is printed, and the ledger's copy follows it.
@@ -99,20 +112,37 @@ fn parts<P: Print>(to: &P, library: &[u8]) {
 
 // The journal twice, a call on an agent that has no library, and the parts.
 fn calls_on<P: Print>(to: &P, library: &[u8]) -> Result<(), Refusal> {
-    Books::open(to, library)?.journal(true);
-    let mut books = Books::open(to, library)?;
-    books.journal(false);
-    books.agent.length = 0;
-    books.cycle();
+    Books::open_any(to, library)?.journal(true);
+    Books::open_any(to, library)?.journal(false);
+    Books::open_unformed(to)?.cycle();
     parts(to, library);
     Ok(())
+}
+
+// Reads until the buffer is full, the input ends or a read fails, and tells how many bytes there are.
+// Not transfer's: that one waits where a read would block, and this program waits for nothing.
+fn read_full<I: Read>(input: &mut I, buf: &mut [u8]) -> usize
+    ensures { result ≤ length buf.new }
+{
+    let mut done: usize = 0;
+    // No `for`: a turn goes on by as many bytes as a read gave.
+    while done < buf.len() {
+        let Ok(n) = input.read(&mut buf[done..]) else {
+            return done;
+        };
+        if n == 0 {
+            return done;
+        }
+        done += n;
+    }
+    done
 }
 
 // Document 01's library comes from standard input.
 fn main(rt: HostRuntime) {
     let mut input = [0u8; BUFFER];
     let mut stdin = rt.stdin();
-    let n = transfer::read_full(&rt, &mut stdin, &mut input).unwrap_or(0);
+    let n = read_full(&mut stdin, &mut input);
     let library = &input[..n];
     if let Err(refusal) = calls_on(&rt, library) {
         print(&rt, plain_result(Answer::Refused(u16::from(refusal))));

@@ -1,5 +1,5 @@
 pub mod Call
 pub mod Spoken
-pub mod Places
+pub mod Fields
 pub mod Printed
 pub mod Cases

@@ -1,13 +1,17 @@
 // A line of the input, without its newline, to a call.
 #![tactic(auto)]
 
-ghost use Rattle.std.specs.Prelude.{◌≡◌, ◌≤◌, length};
-ghost use Rattle.reading.specs.Call.{numeral, number, most_id_digits, largest_number, head_of, terms_of, report_of, outcome_of, call_of};
+ghost use Rattle.std.specs.Prelude.{◌≡◌, ◌≤◌, IfSome};
+ghost use Rattle.literal.specs.Match.{and_then};
+ghost use Rattle.reading.specs.Call.{numeral, number, most_id_digits, largest_number, head_of, id_of, letter, worked_by, report_of, outcome_of, call_of};
+ghost use Rattle.reading.specs.Fields.{fields_left};
 ghost use Rattle.reading.specs.Spoken.{meaning};
-ghost use Rattle.reading.specs.Places.{left, DigitsAt, Reads};
 
+use crate::fields::Fields;
 use literal::{Literal, NEGATIVE};
 use model::{MOST_NUMBER, Number};
+
+mod fields; // the fields of a line
 
 // The longest readable line has this many bytes.
 pub const MOST_LINE: usize = 32;
@@ -31,99 +35,81 @@ pub enum Spoken {
     Outcome { id: Number, worked: bool },
 }
 
-// Digits from a place on: the number that they say, and where they stop.
-#[derive(Clone, Copy)]
-struct Digits {
-    value: u64,
-    stop: usize,
-}
+// ---- What one field says
 
-// At most so many digits from a place on.
-fn digits_at(s: &[u8], at: usize, most: usize) -> Digits
-    requires { most ≤ most_id_digits }
-    ensures { DigitsAt most s.now at result }
+// 1 to so many digits that say at most so much.
+#[tactic(auto, using(crate::proofs::NumberLaws::number_missing, crate::proofs::NumberLaws::number_long))]
+fn read_numeral(field: &[u8], digits: usize, most: u32) -> Option<u32>
+    requires { digits ≤ most_id_digits }
+    ensures said { result ≡ numeral digits most field.now }
+    ensures small { IfSome result (λ n. n ≤ most) }
 {
+    if field.is_empty() || digits < field.len() {
+        return None;
+    }
     let mut value: u64 = 0;
-    for i in at..s.len() {
-        if i - at == most || !s[i].is_ascii_digit() {
-            return Digits { value, stop: i };
+    for b in field {
+        if !b.is_ascii_digit() {
+            return None;
         }
-        value = value * 10 + u64::from(s[i] - b'0');
+        value = value * 10 + u64::from(*b - b'0');
     }
-    Digits {
-        value,
-        stop: at.max(s.len()),
+    if u64::from(most) < value {
+        return None;
     }
+    Some(value as u32)
 }
 
-// A word of its own, as a number.
+// A kind, a term, or a word of its own.
 pub fn read_number(word: &[u8]) -> Option<u16>
     ensures { result ≡ number largest_number word.now }
 {
-    let digits = digits_at(word, 0, MOST_DIGITS);
-    let stop = digits.stop;
-    if stop == 0 {
-        return None;
-    }
-    if stop < word.len() {
-        return None;
-    }
-    u16::try_from(digits.value).ok()
+    Some(read_numeral(word, MOST_DIGITS, LARGEST_NUMBER)? as u16)
 }
 
-// The field from a place on, as a number of so many digits that say at most so much, and where the next field begins: one past the
-// line's end where there is none.
-fn number_at(s: &[u8], at: usize, digits: usize, most: u32) -> Option<(u32, usize)>
-    requires { (length s.now ≤ 32) × (digits ≤ most_id_digits) }
-    ensures { Reads (numeral digits most) most s.now at result }
+// A sign and a predicate.
+#[tactic(auto, unfolding(crate::specs::Call::head_of))]
+fn read_head(field: &[u8]) -> Option<u16>
+    ensures { result ≡ head_of field.now }
 {
-    let found = digits_at(s, at, digits);
-    let stop = found.stop;
-    if stop <= at {
-        return None;
-    }
-    if u64::from(most) < found.value {
-        return None;
-    }
-    if stop < s.len() && s[stop] != b' ' {
-        return None;
-    }
-    Some((found.value as u32, stop + 1))
-}
-
-// The same, as a kind or a term.
-fn term_at(s: &[u8], at: usize) -> Option<(u16, usize)>
-    requires { length s.now ≤ 32 }
-    ensures { Reads (number largest_number) largest_number s.now at result }
-{
-    let (term, next) = number_at(s, at, MOST_DIGITS, LARGEST_NUMBER)?;
-    Some((term as u16, next))
-}
-
-// The same, as a sign and a predicate.
-fn head_at(s: &[u8], at: usize) -> Option<(u16, usize)>
-    requires { length s.now ≤ 32 }
-    ensures { Reads head_of largest_number s.now at result }
-{
-    let sign = *s.get(at)?;
-    let (predicate, next) = number_at(s, at + 1, MOST_DIGITS, LARGEST_PREDICATE)?;
+    let (sign, text) = field.split_first()?;
+    let predicate = read_numeral(text, MOST_DIGITS, LARGEST_PREDICATE)?;
     match sign {
-        b'+' => Some((predicate as u16, next)),
-        b'-' => Some((predicate as u16 + NEGATIVE, next)),
+        b'+' => Some(predicate as u16),
+        b'-' => Some(predicate as u16 + NEGATIVE),
         _ => None,
     }
 }
 
-// The three terms of a report, from a place on.
-#[tactic(auto, using(crate::proofs::CallLaws::end_further))]
-fn terms_at(s: &[u8], at: usize, kind: u16, head: u16) -> Option<Spoken>
-    requires { length s.now ≤ 32 }
-    ensures { meaning result ≡ terms_of kind head (left s.now at) }
+fn read_id(field: &[u8]) -> Option<Number>
+    ensures { result ≡ id_of field.now }
 {
-    let (first, second_at) = term_at(s, at)?;
-    let (second, third_at) = term_at(s, second_at)?;
-    let (third, next) = term_at(s, third_at)?;
-    if next <= s.len() {
+    read_numeral(field, MOST_ID_DIGITS, MOST_NUMBER)
+}
+
+#[tactic(auto, unfolding(crate::specs::Call::letter))]
+fn read_worked(field: &[u8]) -> Option<bool>
+    ensures { result ≡ and_then (letter field.now) worked_by }
+{
+    match field {
+        [b'1'] => Some(true),
+        [b'0'] => Some(false),
+        _ => None,
+    }
+}
+
+// ---- Field by field
+
+// What stands after P.
+fn read_report(mut fields: Fields<'_>) -> Option<Spoken>
+    ensures { meaning result ≡ report_of (fields_left fields.entry) }
+{
+    let kind = read_number(fields.next()?)?;
+    let head = read_head(fields.next()?)?;
+    let first = read_number(fields.next()?)?;
+    let second = read_number(fields.next()?)?;
+    let third = read_number(fields.next()?)?;
+    if fields.next().is_some() {
         return None;
     }
     let literal = Literal {
@@ -135,40 +121,31 @@ fn terms_at(s: &[u8], at: usize, kind: u16, head: u16) -> Option<Spoken>
     Some(Spoken::Report { kind, literal })
 }
 
-// What stands after P.
-fn report_at(s: &[u8], at: usize) -> Option<Spoken>
-    requires { length s.now ≤ 32 }
-    ensures { meaning result ≡ report_of (left s.now at) }
-{
-    let (kind, head_place) = term_at(s, at)?;
-    let (head, next) = head_at(s, head_place)?;
-    terms_at(s, next, kind, head)
-}
-
 // What stands after O.
-fn outcome_at(s: &[u8], at: usize) -> Option<Spoken>
-    requires { length s.now ≤ 32 }
-    ensures { meaning result ≡ outcome_of (left s.now at) }
+fn read_outcome(mut fields: Fields<'_>) -> Option<Spoken>
+    ensures { meaning result ≡ outcome_of (fields_left fields.entry) }
 {
-    let (id, next) = number_at(s, at, MOST_ID_DIGITS, MOST_NUMBER)?;
-    match s.get(next..)? {
-        [b'1'] => Some(Spoken::Outcome { id, worked: true }),
-        [b'0'] => Some(Spoken::Outcome { id, worked: false }),
-        _ => None,
+    let id = read_id(fields.next()?)?;
+    let worked = read_worked(fields.next()?)?;
+    if fields.next().is_some() {
+        return None;
     }
+    Some(Spoken::Outcome { id, worked })
 }
 
 // What a line says.
+#[tactic(auto, unfolding(crate::specs::Call::call_of, crate::specs::Call::letter))]
 pub fn read_call(line: &[u8]) -> Option<Spoken>
     ensures { meaning result ≡ call_of line.now }
 {
-    if MOST_LINE < line.len() {
-        return None;
-    }
-    match line {
-        [b'C'] => Some(Spoken::Cycle),
-        [b'P', b' ', ..] => report_at(line, 2),
-        [b'O', b' ', ..] => outcome_at(line, 2),
+    let mut fields = Fields::of(line);
+    match fields.next()? {
+        [b'C'] => match fields.next() {
+            None => Some(Spoken::Cycle),
+            Some(_) => None,
+        },
+        [b'P'] => read_report(fields),
+        [b'O'] => read_outcome(fields),
         _ => None,
     }
 }

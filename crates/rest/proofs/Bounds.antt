@@ -71,8 +71,7 @@ module _ {A : Type 0} where
 
 pick_less : (x y : Bool) (n : ℕ) → pick (x && y) n ≤ pick x n
 pick_less true true n = omega arith
-pick_less true false n = omega arith
-pick_less false y n = omega arith
+pick_less x y n = omega arith
 
 -- ---- Instances are the live ones
 

@@ -117,10 +117,9 @@ abbrev pub Small : Library → Type 0
 Small library = (plan : ℕ) → total (λ branches. length branches) (get_or library.plans plan no_plan).states ≤ 15
 
 sizes-drop : (s : ℕ) (states : List (List Branch)) → sizes (drop s states) ≡ length (get_or states s []) + sizes (drop (suc s) states)
-sizes-drop zero [] = refl
 sizes-drop zero (x ∷ states) = refl
-sizes-drop (suc s) [] = refl
 sizes-drop (suc s) (x ∷ states) = sizes-drop s states
+sizes-drop s states = refl
 
 sizes_later : (s t : ℕ) (states : List (List Branch)) → s ≤ t → sizes (drop t states) ≤ sizes (drop s states)
 sizes_later zero zero states l = omega arith

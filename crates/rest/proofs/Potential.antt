@@ -75,9 +75,8 @@ started Waiting = 0
 started Suspended = 1
 
 pub started_le : (s : Status) → started s ≤ 1
-started_le Active = omega arith
 started_le Waiting = omega arith
-started_le Suspended = omega arith
+started_le s = omega arith
 
 unfoldable pub spent : Library → Tier → ℕ
 spent library t = started (status_of t) + behind library t.job.instance * per_branch (length library.plans) t.high

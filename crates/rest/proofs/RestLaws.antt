@@ -22,9 +22,8 @@ pub cycles_quiet : (calls : List Call) → Every is_cycle calls → Every (λ c.
 cycles_quiet calls z = omega (arith, total_le (λ c. bit (not (not (is_report c)))) (λ c. bit (not (is_cycle c))) calls no_report)
   where
     no_report : (c : Call) → bit (not (not (is_report c))) ≤ bit (not (is_cycle c))
-    no_report (report kind literal) = omega arith
     no_report cycle = omega arith
-    no_report (outcome id worked) = omega arith
+    no_report c = omega arith
 
 is_cycle_lem : (c : Call) → is_cycle c ≡ true → c ≡ cycle
 is_cycle_lem (report kind literal) e = both_ways e refl

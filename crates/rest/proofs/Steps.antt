@@ -22,7 +22,7 @@ use Rattle.model.specs.declared.Status.TheVariants.{Active, Waiting, Suspended}
 use Rattle.model.specs.declared.Origin.{Origin}
 use Rattle.model.specs.declared.Answer.{Answer}
 use Rattle.model.specs.declared.Answer.TheVariants.{Refused}
-use Rattle.model.specs.State.{Intention, Call, report, cycle, outcome}
+use Rattle.model.specs.State.{Intention, Call, cycle}
 use Rattle.model.specs.Instance.{is_waiting, is_suspended, plan_of, branch_of, try_next, awake, past_branch}
 use Rattle.model.specs.Live.{is_of, same_origin, goal_of, event_on, jobs_on, live}
 use Rattle.model.specs.Try.{new_goal}
@@ -74,9 +74,8 @@ unasked e q t once p = omega (
 -- no answer of a refused call counts
 refused_none : (c : Call) (number : ℕ) → is_work c (Refused number) ≡ false
 unfolding is_work
-refused_none (report kind l) number = refl
 refused_none cycle number = refl
-refused_none (outcome id worked) number = refl
+refused_none c number = refl
 
 waiting-not-started : (s : Status) → is_waiting s ≡ true → started s ≡ 0
 waiting-not-started Active e = both_ways e refl

@@ -14,8 +14,8 @@ ghost use Rattle.situation.specs.Selected.{selected};
 use belief::Beliefs;
 use library::bytes::{LITERAL_BYTES, literal_at, u16_at};
 use library::contents::plan_count;
-use library::plan::{context_offset, trigger, trigger_kind, trigger_least};
-use literal::{Env, FIRST_VARIABLE, Literal, empty_env, match_literal};
+use library::plan::PlanRef;
+use literal::{Env, FIRST_VARIABLE, Literal};
 
 pub mod failed; // the set of an event's failed plans
 
@@ -27,6 +27,7 @@ pub struct Selected {
 }
 
 // What a search keeps, a number as a trigger in the library has it: by 0 the first solution, by v + 1 the first with the least Vv.
+// No enum: it would be made of that number for each search, and tested by the same two cases.
 #[derive(Clone, Copy)]
 pub struct Rule {
     pub least: u16,
@@ -99,7 +100,7 @@ impl Search<'_> {
             if self.rule.is_settled(next) {
                 return next;
             }
-            if let Some(extended) = match_literal(l, *belief, env) {
+            if let Some(extended) = env.match_literal(l, *belief) {
                 next = self.solved(at + LITERAL_BYTES, remaining - 1, extended, next);
             }
         }
@@ -127,7 +128,7 @@ impl Search<'_> {
     }
 }
 
-// The first solution of the situation at `at`.
+// The first solution of the situation at `at`; bytes and offset as in library::bytes.
 #[tactic(auto, using(crate::proofs::KeepLaws::keeps_first))]
 pub fn first_solution(bytes: &[u8], at: usize, beliefs: Beliefs, env: Env) -> Option<Env>
     ensures { result ≡ first_of (solutions (view beliefs) (situation_at bytes.now at) env) }
@@ -152,7 +153,7 @@ pub fn ask(beliefs: Beliefs, l: Literal, env: Env) -> Option<Env>
     ensures { result ≡ ask (view beliefs) l env }
 {
     for belief in beliefs.as_slice() {
-        if let Some(next) = match_literal(l, *belief, env) {
+        if let Some(next) = env.match_literal(l, *belief) {
             return Some(next);
         }
     }
@@ -164,8 +165,10 @@ pub fn ask(beliefs: Beliefs, l: Literal, env: Env) -> Option<Env>
 fn triggered_by(trigger: Literal, l: Literal) -> Option<Env>
     ensures { result ≡ triggered trigger l }
 {
-    match_literal(trigger, l, empty_env())
+    Env::empty().match_literal(trigger, l)
 }
+
+// An event is given by its kind, literal and failed set: the struct Event is the model's, which stands above this crate.
 
 // The solution of a plan's context with which its instance would start; none where it has failed, is of another kind or is not triggered.
 #[tactic(auto, unfolding(crate::specs::Applicable::plan_start, crate::specs::Applicable::plan_solutions))]
@@ -183,22 +186,22 @@ fn plan_solution(
     if failed::has(failed, number) {
         return None;
     }
-    let plan = number as usize;
-    if trigger_kind(bytes, plan) != kind {
+    let plan = PlanRef {
+        library: bytes,
+        number: number as usize,
+    };
+    if plan.trigger_kind() != kind {
         return None;
     }
-    let own = trigger(bytes, plan);
-    let env = triggered_by(own, l)?;
-    let rule = Rule {
-        least: trigger_least(bytes, plan),
-    };
+    let env = triggered_by(plan.trigger(), l)?;
     let search = Search {
         bytes,
         beliefs,
-        rule,
+        rule: Rule {
+            least: plan.trigger_least(),
+        },
     };
-    let context = context_offset(bytes, plan);
-    search.searched(context, env)
+    search.searched(plan.context_offset(), env)
 }
 
 // The first applicable plan in library order, with the solution that its rule keeps.
@@ -216,6 +219,6 @@ pub fn choose_plan(bytes: &[u8], beliefs: Beliefs, kind: u16, l: Literal, failed
     }
     Selected {
         choice: None,
-        env: empty_env(),
+        env: Env::empty(),
     }
 }

@@ -4,3 +4,4 @@ pub mod QueueLaws
 pub mod StackLaws
 pub mod StateLaws
 pub mod CountParts
+pub mod RowLaws

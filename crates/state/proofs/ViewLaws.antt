@@ -1,11 +1,12 @@
 -- Laws of the view: lengths, and searches over a state's arrays instead of the lists that they mean.
-use Prim.Native.Nat.{ℕ, zero, suc, ◌<◌, ◌≤◌}
+use Prim.Native.Nat.{ℕ, zero, suc, ◌<◌, ◌≤◌, min}
 use native.Mathlib.Omega.{arith}
 use mathlib.Core.Path.{◌≡◌, refl, ap, sym, ◌∙◌}
 use mathlib.Core.Bool.{Bool, true, false, ◌||◌, or_assoc, or-false, or_comm}
 use mathlib.Core.List.{List, [], ◌∷◌, ◌++◌, map}
 use lib.ListN.{length, take, get_or, length-take, length-map, get_or-map}
-use lib.Seq.{take-suc, get_or-take}
+use lib.Seq.{take-suc, take_all, get_or-take}
+use Rattle.std.proofs.lemmas.List.{take_min}
 use Rattle.std.specs.List.{list_any}
 use Rattle.model.specs.declared.Instance.{Instance}
 use Rattle.model.specs.declared.Origin.{Origin}
@@ -24,6 +25,17 @@ length_queue s h = length-take (queued_of s) s.queue ∙ omega arith
 
 pub length-stacks : (s : State) → length s.stacks ≡ 8 → length (view_stacks s) ≡ stacked_of s
 length-stacks s h = length-map (take (stacked_of s) s.stacks) view_stack ∙ length-take (stacked_of s) s.stacks ∙ omega arith
+
+-- the first stacks of a slice
+pub first_stacks : (stacks : List Stack) (n : ℕ) → n ≡ min (length stacks) 8 → take n stacks ≡ take 8 stacks
+first_stacks stacks n e =
+    let turned : n ≡ min 8 (length stacks) = omega (arith, e) in
+    ap (λ (m : ℕ). take m stacks) turned ∙ take_min 8 stacks
+
+-- the stacks in use are the first of themselves
+pub standing_all : (s : State) (stacks : List Stack) → stacks ≡ take (stacked_of s) s.stacks → length stacks ≡ stacked_of s
+    → map view_stack (take 8 stacks) ≡ view_stacks s
+standing_all s stacks e size = ap (map view_stack) (take_all 8 stacks (omega (arith, size)) ∙ e)
 
 -- ---- Tests on lists
 

@@ -17,6 +17,7 @@ pub const MOST_STACKS: usize = 8;
 pub const MOST_BELOW: usize = 7;
 
 // A stack is never empty. The first `depth` of `below` are the instances under the top, the bottom first.
+// An array with a count: memory is fixed, and document 01 has a state by value, which no ArrayVec can be copied in.
 #[derive(Clone, Copy)]
 pub struct Stack {
     pub top: Instance,
@@ -27,6 +28,7 @@ pub struct Stack {
 
 // The first `queued` events are the queue, the first `stacked` stacks the stacks in turn order;
 // places past a count are no part of the state.
+// Arrays with counts: memory is fixed, and document 01 has a state by value, which no ArrayVec can be copied in.
 #[derive(Clone, Copy)]
 pub struct State {
     pub beliefs: Beliefs,

@@ -1,4 +1,5 @@
 // Origins: a goal's or an external event's, and the goal of an instance.
+// The types are crate model's, so these are functions: a trait of one impl would be no plainer.
 ghost use Rattle.std.specs.Prelude.{◌≡◌};
 ghost use Rattle.model.specs.Instance.{last_tried};
 ghost use Rattle.model.specs.Live.{is_goal, goal_of};

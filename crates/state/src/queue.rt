@@ -20,42 +20,28 @@ impl State {
     }
 
     // One event more, last; nothing changes where there is no room.
+    #[tactic(auto, using(crate::proofs::RowLaws::queue_rows))]
     pub fn enqueue(&mut self, event: Event)
         ensures { self.new ≡ enqueue self.old event }
     {
-        let n = self.queued;
-        if n < MOST_QUEUED {
-            self.queue[n] = event;
-            self.queued = n + 1;
-        }
+        self.queued = lists::append(&mut self.queue, self.queued, event);
     }
 
     // Without the event at a place; nothing changes where no event stands there.
+    #[tactic(auto, using(crate::proofs::RowLaws::queue_rows))]
     pub fn dequeue(&mut self, place: usize)
         ensures { self.new ≡ dequeue self.old place }
     {
-        let n = self.queued.min(MOST_QUEUED);
-        if place < n {
-            self.queue.copy_within(place + 1..n, place);
-            self.queued = n - 1;
-        }
+        self.queued = lists::take_out(&mut self.queue, self.queued, place);
     }
 
     // Another event at a place; nothing changes where no event stands there.
+    #[tactic(auto, using(crate::proofs::RowLaws::queue_rows))]
     pub fn put_event(&mut self, place: usize, event: Event)
         ensures { self.new ≡ put_event self.old place event }
     {
-        if place < self.queued.min(MOST_QUEUED) {
-            self.queue[place] = event;
-        }
+        lists::put_at(&mut self.queue, self.queued, place, event);
     }
-}
-
-// How many events are queued.
-pub fn queued_of(s: State) -> usize
-    ensures { result ≡ queued_of s }
-{
-    s.queued.min(MOST_QUEUED)
 }
 
 // How many of the events are external.

@@ -5,11 +5,11 @@ ghost use Rattle.model.specs.Live.{is_goal, jobs_of, live, serves, is_ready, is_
 ghost use Rattle.model.specs.State.{most_stacks};
 ghost use Rattle.model.specs.Turn.{is_running};
 ghost use Rattle.model.specs.Outcome.{is_awaiting};
-ghost use Rattle.state.specs.View.{depth_of, view_stack, view_stacks};
+ghost use Rattle.state.specs.View.{depth_of, view_stack};
 ghost use Rattle.state.specs.Search.{has_goal, is_asleep};
 
 use crate::origin::{goal_of, is_goal};
-use crate::{MOST_BELOW, MOST_STACKS, Stack, State};
+use crate::{MOST_STACKS, Stack};
 use model::{Event, Number, Origin, Status};
 
 // Whether one of the instances below the top has posted this goal.
@@ -17,8 +17,7 @@ use model::{Event, Number, Origin, Status};
 fn has_posted(stack: &Stack, origin: Origin) -> bool
     ensures { result ≡ list_any (has_goal origin) (take (depth_of stack.now) stack.now.below) }
 {
-    let depth = stack.depth.min(MOST_BELOW);
-    stack.below[..depth].iter().any(|x| origin == goal_of(*x))
+    stack.beneath().iter().any(|x| origin == goal_of(*x))
 }
 
 // Whether an instance of the stack serves the event of this origin.
@@ -68,14 +67,13 @@ pub fn has_sleeper(stacks: &[Stack]) -> bool
         .any(|stack| stack.top.status == Status::Suspended)
 }
 
-// How many instances are live.
-pub fn live_count(s: &State) -> usize
-    ensures { result ≡ length (live (view_stacks s.now)) }
+// How many instances of the stacks are live.
+pub fn live_count(stacks: &[Stack]) -> usize
+    ensures { result ≡ length (live (map view_stack stacks.now)) }
 {
-    let stacks = s.standing();
     let mut found = stacks.len();
     for stack in stacks {
-        found += stack.depth.min(MOST_BELOW);
+        found += stack.depth();
     }
     found
 }

@@ -3,7 +3,8 @@ use Prim.Native.Nat.{ℕ, suc, ◌+◌, ◌<◌}
 use native.Mathlib.Omega.{arith}
 use mathlib.Core.Path.{◌≡◌, refl, ap, sym, subst⁻¹, ◌∙◌}
 use mathlib.Core.List.{List, [], ◌∷◌, ◌++◌}
-use lib.Dec.{leb, eqb}
+use mathlib.Core.Bool.{true, false}
+use lib.Dec.{ltb, leb, eqb}
 use borrow.Author.Tests.{leb-false, eq-eqb, ne_eqb, eqb-true, eqb-false}
 use Rattle.belief.specs.declared.Beliefs.{Beliefs}
 use Rattle.belief.specs.declared.Change.{Change}
@@ -12,7 +13,8 @@ use Rattle.literal.specs.declared.Literal.{Literal}
 use Rattle.model.specs.declared.Event.{Event}
 use Rattle.model.specs.declared.Answer.TheVariants.{Taken, Refused}
 use Rattle.model.specs.State.{most_number, AgentState, Reply, reply, refuse, requeued}
-use Rattle.model.specs.Report.{is_reportable, report_refusal, report_changes}
+use Rattle.model.specs.Changes.{change_of, effective}
+use Rattle.model.specs.Report.{told_kind, is_reportable, report_refusal, report_changes}
 use Rattle.model.specs.Report.{new_event, take_in, report_by, reported}
 use Rattle.lists.proofs.BoolLaws.{by_cases}
 use Rattle.state.specs.declared.State.{State}
@@ -21,14 +23,26 @@ use Rattle.state.proofs.StateLaws.{enqueue-state}
 use Rattle.state.proofs.CountParts.{counts-parts}
 use Rattle.steps.specs.declared.step.Step.{Step}
 use Rattle.trials.specs.declared.changes.Altered.{Altered}
-use Rattle.trials.specs.Altered.{Alters}
+use Rattle.trials.specs.Altered.{untouched, Alters}
 use Rattle.steps.specs.Gives.{Gives}
 use Rattle.steps.specs.Step.{applied}
 use Rattle.steps.specs.Report.{heard, taken_step, TakesIn, Reports, HasNumber, Hears}
 use Rattle.trials.proofs.AlteredLaws.{altered_within}
+use Rattle.trials.proofs.TrialLaws.{untouched_alters}
 use Rattle.steps.proofs.GivesLaws.{replies_as, gives_as, gives_same, gives_answer}
 use Rattle.steps.proofs.CountLaws.{counts-enqueue}
 use Rattle.steps.proofs.StepLaws.{step_replies}
+
+-- ---- What a report does to the beliefs
+
+module _ (b : Beliefs) (kind : ℕ) (l : Literal) (a : Altered) where
+  pub change_alters : ltb kind told_kind ≡ true → Alters b (effective (view b) (change_of kind l)) a → Alters b (report_changes (view b) kind l) a
+  unfolding report_changes
+  change_alters p h = rw p h
+
+  pub told_alters : ltb kind told_kind ≡ false → a ≡ untouched b → Alters b (report_changes (view b) kind l) a
+  unfolding report_changes
+  told_alters p e = rw p (untouched_alters b a e)
 
 -- ---- Taking the report in
 
@@ -103,6 +117,6 @@ module _ (s : State) (kind : ℕ) (l : Literal) (p : Hears s kind l) (t : Step)
   report_gives = by_cases (eqb refusal 0) (λ e. taken (eqb-true refusal 0 e)) (λ e. refused (eqb-false refusal 0 e))
 
 -- a report that is not refused has a number left
-pub number_left : (beliefs : Beliefs) (queue : List Event) (taken kind : ℕ) (l : Literal) (refusal : ℕ)
-    → refusal ≡ report_refusal (heard beliefs queue taken) kind l → refusal ≡ 0 → taken < most_number
-number_left beliefs queue taken kind l n e h = spent (heard beliefs queue taken) kind l (sym e ∙ h)
+pub number_left : (beliefs : Beliefs) (queue : List Event) (taken kind : ℕ) (l : Literal) → 0 ≡ report_refusal (heard beliefs queue taken) kind l
+    → taken < most_number
+number_left beliefs queue taken kind l e = spent (heard beliefs queue taken) kind l (sym e)

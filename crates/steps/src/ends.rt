@@ -6,29 +6,29 @@ ghost use Rattle.steps.specs.End.{end_move};
 
 use model::Origin;
 use moves::QueueMove;
-use state::{Stack, origin, stacks};
+use state::{Stack, origin};
+use trials::changes::Ending;
 
 // The event that the top of a stack serves.
 fn served_by(stack: Stack) -> Origin
     ensures { result ≡ served_by (view_stack stack) }
 {
-    if stacks::depth_of(stack) < 1 {
+    if stack.depth() < 1 {
         return Origin::External(stack.external);
     }
-    origin::goal_of(stacks::under_top(stack))
+    origin::goal_of(stack.under_top())
 }
 
 // What becomes of the event of a stack's top.
-pub fn end_move(stack: Stack, succeeds: bool) -> QueueMove
-    ensures { result ≡ end_move succeeds (view_stack stack) }
+pub fn end_move(stack: Stack, ending: Ending) -> QueueMove
+    ensures { result ≡ end_move ending (view_stack stack) }
 {
     let served = served_by(stack);
-    if succeeds {
-        QueueMove::Close(served)
-    } else {
-        QueueMove::Mark {
+    match ending {
+        Ending::Success => QueueMove::Close(served),
+        Ending::Failure => QueueMove::Mark {
             origin: served,
             plan: stack.top.plan,
-        }
+        },
     }
 }

@@ -10,7 +10,7 @@ pub mod outcome; // the outcome of an external action
 pub mod report; // a report of a device
 pub mod step; // what a call decides
 
-// The state after a call, and its result.
+// The state after a call, and its result, as the specifications speak of them: code changes the state where it stands.
 #[derive(Clone, Copy)]
 pub struct Acted {
     pub state: State,

@@ -3,12 +3,11 @@ ghost use Rattle.std.specs.Prelude.{◌≡◌};
 ghost use Rattle.library.specs.Layout.{library_of};
 ghost use Rattle.steps.specs.Outcome.{told_step};
 
-use crate::step;
 use crate::step::Step;
 use belief::Beliefs;
 use jobs::instance;
 use model::Answer;
-use moves::{Numbering, QueueMove, StackMove};
+use moves::StackMove;
 use state::{Stack, origin};
 
 // An outcome for the top of the stack at a place, which waits for it: the action worked and it steps, or the branch is missed.
@@ -34,12 +33,9 @@ pub fn tell_at(library: &[u8], b: Beliefs, place: usize, stack: Stack, worked: b
         };
         (instance::awoken(x), answer)
     };
-    step::plain_step(
-        b,
-        answer,
-        QueueMove::Keep,
-        StackMove::Replace(place),
-        Stack { top, ..stack },
-        Numbering::Keep,
-    )
+    Step {
+        stacks: StackMove::Replace(place),
+        stack: Stack { top, ..stack },
+        ..Step::unchanged(b, answer)
+    }
 }

@@ -1,13 +1,11 @@
 // A step: what a call answers and what it does to the state, decided before anything changes.
 ghost use Rattle.std.specs.Prelude.{◌≡◌};
-ghost use Rattle.steps.specs.Step.{opened_stack, blank_stack, result_of, plain_step, rest_step, state_after, applied};
+ghost use Rattle.steps.specs.Step.{opened_stack, blank_stack, result_of, rest_step, state_after};
 
-use crate::Acted;
 use belief::Beliefs;
 use model::{Answer, Answered, Instance, Number, Status};
 use moves::{Numbering, QueueMove, StackMove};
 use state::{MOST_BELOW, Stack, State};
-use trials::changes;
 use trials::changes::Altered;
 
 // The answer, the belief table after the changes, the moves of queue and stacks with the stack that is put, and a new number.
@@ -21,7 +19,7 @@ pub struct Step {
     pub numbering: Numbering,
 }
 
-// ---- Steps that change no belief
+// ---- The stack of a step
 
 // A stack of one instance, for an external event.
 pub fn new_stack(external: Number, x: Instance) -> Stack
@@ -31,7 +29,7 @@ pub fn new_stack(external: Number, x: Instance) -> Stack
         top: x,
         below: [x; MOST_BELOW],
         depth: 0,
-        external: external,
+        external,
     }
 }
 
@@ -42,7 +40,7 @@ pub fn no_stack() -> Stack
     let nobody = Instance {
         id: 0,
         plan: 0,
-        env: literal::empty_env(),
+        env: literal::Env::empty(),
         state: 0,
         tried: 0,
         status: Status::Active,
@@ -50,55 +48,36 @@ pub fn no_stack() -> Stack
     new_stack(0, nobody)
 }
 
-// A step that changes no belief.
-pub fn plain_step(
-    b: Beliefs,
-    answer: Answer,
-    queue: QueueMove,
-    stacks: StackMove,
-    stack: Stack,
-    numbering: Numbering,
-) -> Step
-    ensures { result ≡ plain_step b answer queue stacks stack numbering }
-{
-    Step {
-        answer,
-        altered: changes::unaltered(b),
-        queue,
-        stacks,
-        stack,
-        numbering,
-    }
-}
-
-// A step that changes nothing.
-pub fn no_step(b: Beliefs, answer: Answer) -> Step
-    ensures { result ≡ rest_step b answer }
-{
-    plain_step(
-        b,
-        answer,
-        QueueMove::Keep,
-        StackMove::Keep,
-        no_stack(),
-        Numbering::Keep,
-    )
-}
-
-// What it answers, with the changes.
-pub fn result_of(t: &Step) -> Answered
-    ensures { result ≡ result_of t.now }
-{
-    Answered {
-        answer: t.answer,
-        changes: t.altered.changes,
-        count: t.altered.count,
-    }
-}
-
-// ---- The state after a step
+// ---- A step
 
 impl Step {
+    // A step that changes nothing.
+    pub fn unchanged(b: Beliefs, answer: Answer) -> Step
+        ensures { result ≡ rest_step b answer }
+    {
+        Step {
+            answer,
+            altered: Altered::untouched(b),
+            queue: QueueMove::Keep,
+            stacks: StackMove::Keep,
+            stack: no_stack(),
+            numbering: Numbering::Keep,
+        }
+    }
+
+    // What it answers, with the changes.
+    pub fn result(&self) -> Answered
+        ensures { result ≡ result_of self.now }
+    {
+        Answered {
+            answer: self.answer,
+            changes: self.altered.changes,
+            count: self.altered.count,
+        }
+    }
+
+    // ---- The state after a step
+
     // Makes the step on a state: the queue, the stacks, the numbers and the table, each by its move.
     pub fn apply(&self, s: &mut State)
         ensures { s.new ≡ state_after s.old self.now }
@@ -107,17 +86,5 @@ impl Step {
         self.stacks.apply(s, self.stack);
         self.numbering.apply(s);
         s.beliefs = self.altered.table;
-    }
-}
-
-// The state after a step, and its result.
-pub fn acted_by(s: State, t: Step) -> Acted
-    ensures { result ≡ applied s t }
-{
-    let mut state = s;
-    t.apply(&mut state);
-    Acted {
-        state,
-        result: result_of(&t),
     }
 }

@@ -5,7 +5,7 @@ use Rattle.std.specs.Prelude.{Option, None, Some}
 use mathlib.Core.List.{List, [], ◌∷◌, ◌++◌, append-nil, append_assoc}
 use native.Mathlib.Omega.{arith}
 use lib.Dec.{leb}
-use lib.ListN.{length, take, length-append, length-take}
+use lib.ListN.{length, take, drop, length-append, length-take, drop_of_length-le}
 use borrow.Rule.Slice.PartMut.{put_mid}
 use Rattle.std.proofs.lemmas.Slice.{take-put_mid}
 use borrow.Author.Tests.{le-leb, lt-leb, leb-true, leb-false}
@@ -84,6 +84,10 @@ module _ (carry : Carry) where
 
   -- ---- With further bytes
 
+  -- a place past the chunk adds none
+  pub nothing_further : (chunk : List ℕ) (at : ℕ) → length chunk < at → begun carry ≡ more (begun carry) (drop at chunk)
+  nothing_further chunk at h = rw (drop_of_length-le chunk {i = at} (omega arith)) (sym begun_kept)
+
   -- too long already
   pub extend_past : (bytes : List ℕ) → most_line < carry.count → begun carry ≡ more (begun carry) bytes
   extend_past bytes h = rw (begun_long h)
@@ -117,3 +121,9 @@ module _ (carry : Carry) where
       let few = leb-true carry.count most_line t in
       rw (begun_short few) (line_left (take carry.count carry.bytes) (simp length-take (omega arith))))
       (λ t. rw (begun_long (leb-false _ _ t)))
+
+-- what a carry holds, by its count
+pub ruleset beginnings = (begun_short, begun_long)
+
+-- what further bytes make of it, by its count and theirs
+pub ruleset extending = (begun_short, begun_long, extend_past, extend_over, extend_fits, extend_put)

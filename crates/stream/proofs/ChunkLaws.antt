@@ -1,28 +1,25 @@
 -- What a chunk does to the calls of an input: a line that ends in it says its call, and one that does not goes on after it.
 use Prim.Native.Nat.{ℕ, suc, ◌+◌, ◌-◌, ◌≤◌, ◌<◌}
 use mathlib.Core.Path.{◌≡◌, refl, sym, ap, ◌∙◌}
-use mathlib.Core.Bool.{true, false}
+use mathlib.Core.Bool.{Bool, true, false, cond}
 use Rattle.std.specs.Prelude.{Option, None, Some}
 use mathlib.Core.List.{List, [], ◌∷◌, ◌++◌}
 use native.Mathlib.Omega.{arith}
 use lib.Dec.{ltb}
 use lib.ListN.{length, take, drop, length-drop, take-append-drop}
-use lib.Seq.{take-add, drop-drop}
+use lib.Seq.{take-add, take_all, drop-drop}
 use borrow.Author.Tests.{lt-ltb, le-ltb, ltb-true, ltb-false}
-use Rattle.std.specs.Option.{option_map}
 use Rattle.std.specs.List as std
 use Rattle.std.specs.List.{position_or_len, slice_range}
 use Rattle.lists.proofs.BoolLaws.{by_cases}
 use Rattle.lists.proofs.OptionLaws.{some_equal, none-some}
 use Rattle.model.specs.State.{Call}
 use Rattle.reading.specs.Spoken.{meaning}
-use Rattle.reading.specs.Places.{part}
-use Rattle.reading.proofs.PlaceLaws.{part-all}
 use Rattle.stream.specs.declared.Carry.{Carry}
 use Rattle.stream.specs.declared.Line.{Line}
 use Rattle.stream.specs.Lines.{is_newline}
 use Rattle.stream.specs.Carried.{begun, more, said}
-use Rattle.stream.specs.Calls.{calls_from, line_after, line_end, newline_at, Ended, ended_at, next_line, shown}
+use Rattle.stream.specs.Calls.{calls_from, line_after, part, line_end, Ended, ended_at, next_line, shown}
 use Rattle.stream.proofs.CarryLaws.{Kept, more_twice, more_stays, begun_kept}
 
 -- ---- The place of the first newline
@@ -32,25 +29,6 @@ first_here b bytes e = rw e
 
 first_later : (b : ℕ) (bytes : List ℕ) → is_newline b ≡ false → position_or_len is_newline (b ∷ bytes) ≡ suc (position_or_len is_newline bytes)
 first_later b bytes e = rw e (omega arith)
-
--- ---- Where the code finds it, in the rest of the chunk from a place on
-module _ (chunk : List ℕ) (at : ℕ) (rest : List ℕ) (is : rest ≡ slice_range chunk at (length chunk)) where
-  newline-found : newline_at chunk at ≡ option_map (λ size. at + size) (std.position is_newline rest)
-  newline-found =
-      rw (is, part-all chunk at)
-      (by_cases (ltb (position_or_len is_newline (drop at chunk)) (length (drop at chunk)))
-      (λ e. rw (e, lt-ltb (line_end chunk at) (length chunk) (omega (arith, ltb-true _ _ e, length-drop at chunk))))
-      (λ e. rw (e, le-ltb (line_end chunk at) (length chunk) (omega (arith, ltb-false _ _ e, length-drop at chunk)))))
-
-  pub newline_there : (size : ℕ) → Some size ≡ std.position is_newline rest → Some (at + size) ≡ newline_at chunk at
-  newline_there size e = ap (option_map (λ size. at + size)) e ∙ sym newline-found
-
-  pub newline_nowhere : None ≡ std.position is_newline rest → None ≡ newline_at chunk at
-  newline_nowhere e = ap (option_map (λ size. at + size)) e ∙ sym newline-found
-
--- a place past the chunk has no newline
-pub newline_past : (chunk : List ℕ) (at : ℕ) → length chunk < at → None ≡ newline_at chunk at
-newline_past chunk at h = rw (le-ltb (line_end chunk at) (length chunk) (omega arith))
 
 -- ---- Bytes with a newline, and bytes without
 
@@ -109,13 +87,6 @@ after_none held (b ∷ bytes) k h =
 
 -- ---- A chunk from a place on
 
--- a newline that is found
-line_found : (chunk : List ℕ) (at stop : ℕ) → Some stop ≡ newline_at chunk at → (stop ≡ line_end chunk at) × (stop < length chunk)
-line_found chunk at stop e =
-    by_cases (ltb (line_end chunk at) (length chunk))
-    (λ t. let is : stop ≡ line_end chunk at = some_equal (e ∙ rw t) in (is, omega (arith, is, ltb-true _ _ t)))
-    (λ t. none-some {y = stop} (sym (e ∙ rw t)))
-
 module _ (chunk : List ℕ) (at : ℕ) (held : Option (List ℕ)) where
   pub next_ends : line_end chunk at < length chunk → next_line chunk at held ≡ Some (ended_at chunk at (line_end chunk at) held)
   unfolding next_line
@@ -125,19 +96,40 @@ module _ (chunk : List ℕ) (at : ℕ) (held : Option (List ℕ)) where
   unfolding next_line
   next_used h = rw (le-ltb _ _ h)
 
-  -- what is answered where a line ends
-  pub next_answer : (stop : ℕ) (call : Option Call) → Some stop ≡ newline_at chunk at
-      → call ≡ said (more held (part chunk at stop)) → Some (record { call = call; next = stop + 1 }) ≡ next_line chunk at held
-  next_answer stop call found says =
-      let end = line_found chunk at stop found in
-      rw says (ap (λ (n : ℕ). Some (ended_at chunk at n held)) end.0 ∙ sym (next_ends (omega (arith, end.0, end.1))))
+  -- a place past the chunk
+  pub next_past : length chunk < at → next_line chunk at held ≡ None
+  next_past h = next_used (omega arith)
 
-  -- and where none does
-  pub next_nothing : None ≡ newline_at chunk at → None ≡ next_line chunk at held
-  next_nothing none =
-      by_cases (ltb (line_end chunk at) (length chunk))
-      (λ t. absurd (none-some {y = line_end chunk at} (none ∙ rw t)))
-      (λ t. sym (next_used (ltb-false _ _ t)))
+  -- what is answered by the place of the newline that the code finds in the rest of the chunk
+  module _ (rest : List ℕ) (is : rest ≡ slice_range chunk at (length chunk)) where
+    rest-all : rest ≡ drop at chunk
+    rest-all = is ∙ take_all (length chunk - at) (drop at chunk) (rw length-drop (omega arith))
+
+    position_told : std.position is_newline rest ≡ cond (ltb (line_end chunk at) (length chunk)) (Some (position_or_len is_newline (drop at chunk))) None
+    position_told =
+        rw rest-all
+        (by_cases (ltb (position_or_len is_newline (drop at chunk)) (length (drop at chunk)))
+        (λ e. rw (e, lt-ltb (line_end chunk at) (length chunk) (omega (arith, ltb-true _ _ e, length-drop at chunk))))
+        (λ e. rw (e, le-ltb (line_end chunk at) (length chunk) (omega (arith, ltb-false _ _ e, length-drop at chunk)))))
+
+    pub next_nothing : None ≡ std.position is_newline rest → None ≡ next_line chunk at held
+    unfolding next_line
+    next_nothing found = by (ltb (line_end chunk at) (length chunk)) (found ∙ position_told) where
+      by : (t : Bool) → None ≡ cond t (Some (position_or_len is_newline (drop at chunk))) None → None ≡ cond t (Some (ended_at chunk at (line_end chunk at) held)) None
+      by true e = none-some e
+      by false e = refl
+
+    pub next_answer : (size : ℕ) (call : Option Call) → Some size ≡ std.position is_newline rest → call ≡ said (more held (take size rest))
+        → Some (record { call = call; next = at + size + 1 }) ≡ next_line chunk at held
+    unfolding next_line
+    next_answer size call found says = by (ltb (line_end chunk at) (length chunk)) (found ∙ position_told) where
+      by : (t : Bool) → Some size ≡ cond t (Some (position_or_len is_newline (drop at chunk))) None
+          → Some (record { call = call; next = at + size + 1 }) ≡ cond t (Some (ended_at chunk at (line_end chunk at) held)) None
+      by true e =
+          let same : size ≡ position_or_len is_newline (drop at chunk) = some_equal e in
+          let back : at + position_or_len is_newline (drop at chunk) - at ≡ position_or_len is_newline (drop at chunk) = omega arith in
+          rw (says, rest-all, same, back)
+      by false e = none-some {y = size} (sym e)
 
   -- what an answer tells of the line's end
   told_line : (e : Ended) → Some e ≡ next_line chunk at held → (line_end chunk at < length chunk) × (e ≡ ended_at chunk at (line_end chunk at) held)

@@ -1,11 +1,10 @@
 -- What an input says, line by line, from a line so far on (document 01, "Journal"); and what the code answers for a chunk.
-use Rattle.std.specs.Prelude.{ℕ, ◌+◌, cond, List, [], ◌∷◌, ltb, length, drop, Option, None, Some}
+use Rattle.std.specs.Prelude.{ℕ, ◌+◌, ◌-◌, cond, List, [], ◌∷◌, ltb, length, take, drop, Option, None, Some}
 use Rattle.std.specs.List.{position_or_len}
 use Rattle.model.specs.State.{Call}
 use Rattle.reading.specs.Call.{call_of}
 use Rattle.reading.specs.declared.Spoken.{Spoken}
 use Rattle.reading.specs.Spoken.{meaning}
-use Rattle.reading.specs.Places.{part}
 use Rattle.stream.specs.declared.Line.{Line}
 use Rattle.stream.specs.Lines.{is_newline}
 use Rattle.stream.specs.Carried.{more, said}
@@ -34,9 +33,9 @@ line_after held (b ∷ bytes) = cond (is_newline b) (line_after (Some []) bytes)
 abbrev pub line_end : List ℕ → ℕ → ℕ
 line_end chunk at = at + position_or_len is_newline (drop at chunk)
 
--- its newline; none where the chunk has none
-abbrev pub newline_at : List ℕ → ℕ → Option ℕ
-newline_at chunk at = cond (ltb (line_end chunk at) (length chunk)) (Some (line_end chunk at)) None
+-- the bytes from a place up to another
+abbrev pub part : List ℕ → ℕ → ℕ → List ℕ
+part chunk at stop = take (stop - at) (drop at chunk)
 
 -- the call of a line that ended, and where the next one begins
 pub record Ended : Type 0 where

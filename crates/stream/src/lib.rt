@@ -4,12 +4,12 @@
 ghost use Rattle.std.specs.Prelude.{◌≡◌, [], drop, Some};
 ghost use Rattle.reading.specs.Spoken.{meaning};
 ghost use Rattle.stream.specs.Carried.{begun, more, said};
-ghost use Rattle.stream.specs.Calls.{at_end, newline_at, next_line, shown, shown_last};
+ghost use Rattle.stream.specs.Calls.{at_end, next_line, shown, shown_last};
 
 use reading::{MOST_LINE, Spoken};
 
 // The line so far is the first `count` bytes; a count over 32 says that it is too long to be read. No Option of a count: the fields are
-// public, so a count over 32 can be handed in either way, and needs a meaning.
+// public, so a count over 32 can be handed in either way, and needs a meaning. An array, since memory is fixed.
 #[derive(Clone, Copy)]
 pub struct Carry {
     pub bytes: [u8; MOST_LINE],
@@ -24,6 +24,7 @@ pub struct Line {
 }
 
 // No line has begun.
+#[tactic(auto, using(crate::proofs::CarryLaws::begun_short))]
 pub fn no_line() -> Carry
     ensures { begun result ≡ Some [] }
 {
@@ -33,15 +34,8 @@ pub fn no_line() -> Carry
     }
 }
 
-// Where the line that stands at a place of the chunk ends; none where it does not end in it.
-fn line_end(chunk: &[u8], at: usize) -> Option<usize>
-    ensures { result ≡ newline_at chunk.now at }
-{
-    let size = chunk.get(at..)?.iter().position(|b| *b == b'\n')?;
-    Some(at + size)
-}
-
 // The line so far with further bytes, of which a line that gets too long keeps none.
+#[tactic(auto, using(crate::proofs::CarryLaws::extending))]
 fn extended(mut carry: Carry, bytes: &[u8]) -> Carry
     ensures { begun result ≡ more (begun carry) bytes.now }
 {
@@ -62,6 +56,7 @@ fn extended(mut carry: Carry, bytes: &[u8]) -> Carry
 }
 
 // What the line so far says.
+#[tactic(auto, using(crate::proofs::CarryLaws::beginnings, std::proofs::lemmas::Slice::between_from_start))]
 fn call_of(carry: Carry) -> Option<Spoken>
     ensures { meaning result ≡ said (begun carry) }
 {
@@ -69,20 +64,26 @@ fn call_of(carry: Carry) -> Option<Spoken>
 }
 
 // The line that ends next in the chunk, from a place on; one that began there is read in place.
+// The place is given beside the chunk, and told: the agent counts for its caller how much of the chunk it read.
 pub fn next_line(chunk: &[u8], at: usize, carry: Carry) -> Option<Line>
     ensures { shown result ≡ next_line chunk.now at (begun carry) }
 {
-    let stop = line_end(chunk, at)?;
-    let line = &chunk[at..stop];
+    let rest = chunk.get(at..)?;
+    let size = rest.iter().position(|b| *b == b'\n')?;
+    let line = &rest[..size];
     let call = if carry.count == 0 {
         reading::read_call(line)
     } else {
         call_of(extended(carry, line))
     };
-    Some(Line { call, at: stop + 1 })
+    Some(Line {
+        call,
+        at: at + size + 1,
+    })
 }
 
 // The line so far where the chunk is used up, from a place on.
+#[tactic(auto, using(crate::proofs::CarryLaws::nothing_further))]
 pub fn carried(chunk: &[u8], at: usize, carry: Carry) -> Carry
     ensures { begun result ≡ more (begun carry) (drop at chunk.now) }
 {
@@ -93,6 +94,7 @@ pub fn carried(chunk: &[u8], at: usize, carry: Carry) -> Carry
 }
 
 // What the line says that the input's end ends; none where no line has begun.
+#[tactic(auto, using(crate::proofs::CarryLaws::end_nothing, crate::proofs::CarryLaws::end_line))]
 pub fn last_line(carry: Carry) -> Option<Option<Spoken>>
     ensures { shown_last result ≡ at_end (begun carry) }
 {

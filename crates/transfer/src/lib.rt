@@ -17,6 +17,9 @@ use std::io;
 use std::io::{Read, Write};
 use std::rt::Clock;
 
+// How many bytes a program's buffer has: more than any library, image, board or line.
+pub const BUFFER: usize = 65536;
+
 // A proved loop has to end, so each has a number of tries that no run uses up. A read, a write and a sync have a loop each: of what a
 // closure borrows a proof knows nothing after its call (tried, docs/DECISIONS.md).
 
@@ -55,6 +58,8 @@ pub fn read_full<C: Clock, R: Read>(clock: &C, reader: &mut R, buf: &mut [u8]) -
 }
 
 // ---- Writes
+
+// Each takes a writer and the bytes, as std's own `write` and `write_all` do: a struct of both would be made anew for each call.
 
 // A write that failed for good: how many bytes were written before it, and why it failed.
 #[derive(Clone, Copy, Debug)]

@@ -13,9 +13,7 @@ use Rattle.literal.specs.declared.Env.{Env}
 use Rattle.literal.specs.Literal.{is_ground, same, opposite}
 use Rattle.belief.specs.declared.Beliefs.{Beliefs}
 use Rattle.belief.specs.declared.Change.{Change}
-use Rattle.belief.specs.declared.Effect.{Effect}
-use Rattle.belief.specs.declared.Effect.TheVariants as effect
-use Rattle.belief.specs.declared.Effect.TheVariants.{Nothing, Impossible, Replaced}
+use Rattle.belief.specs.declared.Effect.TheVariants.{Impossible}
 use Rattle.belief.specs.declared.Applied.{Applied}
 use Rattle.belief.specs.Beliefs.{view, holds, plus, minus, fits, replay}
 use Rattle.belief.specs.Table.{fitted, changed, cleared, add, remove_by, remove}
@@ -27,13 +25,6 @@ use Rattle.model.proofs.ChangeLaws.{replay-put}
 use Rattle.model.specs.Try.{is_possible}
 use Rattle.trials.specs.declared.changes.Altered.{Altered}
 use Rattle.trials.specs.Altered.{changes_of, untouched, removal, made_by, noted_one, Alters, Within, Extends, Changed}
-
--- what is not impossible had room
-pub fitted_otherwise : (e : Effect) → (e ≡ Impossible → ⊥) → fitted e ≡ true
-fitted_otherwise Nothing h = refl
-fitted_otherwise Impossible h = absurd (h refl)
-fitted_otherwise effect.Changed h = refl
-fitted_otherwise Replaced h = refl
 
 -- ---- One change
 
@@ -166,8 +157,8 @@ module _ (t : Altered) (c : Change) (applied : Applied) (h : Changed t.table c a
     count = k;
   }
 
-  pub noted-none : changed applied.effect ≡ false → Extends t (effective (view t.table) c) moved
-  noted-none p = extends moved [] refl (rw p) (sym (append-nil (changes_of t))) (omega arith)
+  pub noted_none : changed applied.effect ≡ false → Extends t (effective (view t.table) c) moved
+  noted_none p = extends moved [] refl (rw p) (sym (append-nil (changes_of t))) (omega arith)
 
   pub noted_one_lem : changed applied.effect ≡ true → cleared applied.effect ≡ false → (r : Altered) → r ≡ noted_one moved c → Extends t (effective (view t.table) c) r
   noted_one_lem p q r e = rw e (extends (noted_one moved c) (c ∷ []) refl (rw (p, q)) (noted_more moved c len (omega arith)) (omega arith))
@@ -181,6 +172,9 @@ module _ (t : Altered) (c : Change) (applied : Applied) (h : Changed t.table c a
       rw (f, e) (extends (noted_one one c) (gone ∷ c ∷ []) refl (rw (p, q))
       (noted_more one c more (omega arith) ∙ ap (λ (cs : List Change). cs ++ (c ∷ [])) (noted_more moved gone len (omega arith)) ∙ append_assoc (changes_of t) (gone ∷ []) (c ∷ []))
       (omega arith))
+
+-- what a change noted adds, by what it did
+pub ruleset noting = (noted_none, noted_one_lem, noted_two)
 
 -- the first change
 pub first-change : (b : Beliefs) (t a : Altered) (c : Change) → t ≡ untouched b → Extends t (effective (view t.table) c) a

@@ -1,9 +1,11 @@
 -- What the code's trial of a branch means: the model's Try (document 01, "Cycle", step 4).
-use Rattle.std.specs.Prelude.{◌≡◌, List, []}
+use Rattle.std.specs.Prelude.{ℕ, ◌≡◌, List, []}
 use Rattle.literal.specs.declared.Env.{Env}
+use Rattle.literal.specs.declared.Literal.{Literal}
+use Rattle.literal.specs.Environment.{instantiate}
 use Rattle.belief.specs.declared.Beliefs.{Beliefs}
 use Rattle.belief.specs.declared.Change.{Change}
-use Rattle.model.specs.Try.{Try, missed, stepped, done, posted}
+use Rattle.model.specs.Try.{Try, missed, stepped, done, posted, answer_to, is_barred, pursue}
 use Rattle.trials.specs.declared.tries.Outcome.{Outcome}
 use Rattle.trials.specs.declared.tries.Outcome.TheVariants.{Missed, Stepped, Done, Posted}
 use Rattle.trials.specs.declared.tries.Trial.{Trial}
@@ -29,3 +31,8 @@ changes_by (posted goal) = []
 pub record Tries (beliefs : Beliefs) (try : Try) (t : Trial) : Type 0 where
   pub shown : view_trial t ≡ try
   pub altered : Alters beliefs (changes_by try) t.altered
+
+-- an achieve or a query, by its kind: answered by the beliefs, else its goal is pursued
+abbrev pub asked : ℕ → List Literal → ℕ → Env → Literal → Try
+asked kind beliefs height env literal =
+    let goal = instantiate env literal in pursue (answer_to kind beliefs env literal) (is_barred kind beliefs height goal) goal

@@ -12,10 +12,10 @@ slice_bounds-result-end-2 c =
     omega (
       arith,
       part_within c.args.library.now c.args.plan (sym c.in-Ok.ensures),
-      c.entry_offset-offset.ensures,
-      c.entry_length.ensures,
+      c.offset-offset.ensures.value,
+      c.length.ensures.value,
     )
 
 pub returns : goal.returns
 returns c =
-    part_is c.args.library.now c.args.plan (sym c.in-Ok.ensures) _ _ c.entry_offset-offset.ensures c.entry_length.ensures
+    part_is c.args.library.now c.args.plan (sym c.in-Ok.ensures) _ _ c.offset-offset.ensures.value c.length.ensures.value

@@ -4,7 +4,7 @@ use mathlib.Core.Path.{◌≡◌, sym, ◌∙◌}
 use native.Mathlib.Omega.{arith}
 use lib.ListN.{length, take, drop, length-drop}
 use lib.Seq.{take_all}
-use Rattle.belief.proofs.TableSteps.{sound_stop, sound_next, sound_end}
+use Rattle.belief.proofs.TableSteps.{sound_stop, sound_next}
 use Rattle.belief.proofs.are_sound.Goals as goal
 
 pub returns-then-not-agrees : goal.returns-then-not-agrees
@@ -20,6 +20,3 @@ loop-i-preserved c =
     let i = c.loop-i.i in
     let later : take (length xs - (i + 1)) (drop (i + 1) xs) ≡ drop (i + 1) xs = take_all (length xs - (i + 1)) (drop (i + 1) xs) (omega (arith, length-drop (i + 1) xs)) in
     sound_next xs i _ (omega arith) c.loop-i.invariant (sym (rw later at c.agrees.ensures) ∙ c.if-not-agrees.false)
-
-pub returns : goal.returns
-returns c = sound_end c.args.beliefs.now c.loop-i.i (omega arith) c.loop-i.invariant

@@ -9,7 +9,7 @@ use Rattle.load.proofs.first_state.Goals as goal
 pub returns : goal.returns
 returns c =
     let l = c.no_literal-nothing.ensures in
-    let v = c.empty_env-env.ensures in
+    let v = c.empty-env.ensures in
     λ i. record {
       beliefs = c.args.beliefs;
       queue = replicate most_queued (record { origin = External 0; kind = 0; literal = l i; failed = 0 });

@@ -1,11 +1,8 @@
 -- `printing::put_changes` meets its contract: one change more, and all of them at the end.
-use borrow.Author.Rules.{rules}
 use native.Mathlib.Omega.{arith}
-use mathlib.Core.Path.{◌≡◌, refl, ap, ◌∙◌}
-use lib.ListN.{length, take}
-use lib.Seq.{length-take-le, take_all}
+use mathlib.Core.Path.{refl, ap, ◌∙◌}
+use lib.Seq.{take_all}
 use Rattle.lists.specs.Counts.{each}
-use Rattle.lists.proofs.ArrayLaws.{length-mapped}
 use Rattle.writing.proofs.WritingLaws.{widen, nothing, written}
 use Rattle.printing.specs.LineText.{change_text}
 use Rattle.printing.proofs.TextLaws.{next_change, next_fit}
@@ -15,14 +12,11 @@ pub loop-c-init : goal.loop-c-init
 loop-c-init c = record { kept = refl; written = nothing; fit = refl }
 
 pub put_change-o-requires : goal.put_change-o-requires
-put_change-o-requires c =
-    let long : length c.args.changes ≡ 8 = search (rules, length-mapped) in
-    let count : length (take c.args.n c.args.changes) ≡ c.args.n = length-take-le c.args.n c.args.changes (omega arith) in
-    omega (arith, count, c.loop-c.invariant.written.within)
+put_change-o-requires c = omega (arith, c.loop-c.invariant.written.within)
 
 pub loop-c-preserved : goal.loop-c-preserved
 loop-c-preserved c =
-    let changes = take c.args.n c.args.changes in
+    let changes = c.args.changes.now in
     record {
       kept = c.put_change-o.auto.out ∙ c.loop-c.invariant.kept;
       written = next_change changes c.loop-c.c-index _ c.loop-c-test.true c.loop-c.invariant.written c.put_change-o.ensures.wrote;
@@ -31,11 +25,9 @@ loop-c-preserved c =
 
 pub returns : goal.returns
 returns c =
-    let changes = take c.args.n c.args.changes in
-    let long : length c.args.changes ≡ 8 = search (rules, length-mapped) in
-    let count : length changes ≡ c.args.n = length-take-le c.args.n c.args.changes (omega arith) in
+    let changes = c.args.changes.now in
     let all = take_all c.loop-c.c-index changes (omega arith) in
     record {
-      wrote = written (ap (each change_text) all) (widen (omega (arith, count)) c.loop-c.invariant.written);
+      wrote = written (ap (each change_text) all) (widen (omega arith) c.loop-c.invariant.written);
       fits = rw all at c.loop-c.invariant.fit;
     }

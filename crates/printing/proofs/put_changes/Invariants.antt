@@ -12,6 +12,6 @@ use Rattle.printing.proofs.put_changes.Given as goal
 abbrev pub invariant-loop-c : goal.invariant-loop-c
 invariant-loop-c l = record {
   kept : length l.out ≡ length l.initial.out;
-  written : Wrote (most_change * l.c-index) l.initial.out l.out l.at l.o (each change_text (take l.c-index l.c-items));
-  fit : list_all fits_change (take l.c-index l.c-items) ≡ true;
+  written : Wrote (most_change * l.c-index) l.initial.out l.out l.at l.o (each change_text (take l.c-index l.changes));
+  fit : list_all fits_change (take l.c-index l.changes) ≡ true;
 }

@@ -28,5 +28,5 @@ pub returns : goal.returns
 returns c =
     let a = c.args in
     let l = c.loop-number in
-    rw c.empty_env.ensures (ap selected (choose-end c.as_slice-held.result.now a.kind a.l a.failed (plan_of a.bytes.now) l.number c.plan_count-number-end.result c.loop-number-test.false
+    rw c.empty.ensures (ap selected (choose-end c.as_slice-held.result.now a.kind a.l a.failed (plan_of a.bytes.now) l.number c.plan_count-number-end.result c.loop-number-test.false
     ∙ l.invariant ∙ rw c.as_slice-held.ensures))

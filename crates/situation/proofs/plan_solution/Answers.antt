@@ -25,7 +25,7 @@ returns-in_err-env c =
     let plan = plan_of a.bytes.now a.number in
     let fresh = sym c.has.ensures ∙ c.if-has.false in
     let kind = sym c.trigger_kind.ensures ∙ c.if-trigger_kind-kind.false in
-    let missed = ap (λ (t : Literal). triggered t a.l) (sym c.trigger-own.ensures) ∙ sym c.triggered_by.ensures ∙ c.in_err-env.was in
+    let missed = ap (λ (t : Literal). triggered t a.l) (sym c.trigger.ensures) ∙ sym c.triggered_by.ensures ∙ c.in_err-env.was in
     c.from_residual.ensures ∙ no_start a.beliefs.now a.kind a.l a.failed a.number plan (plan-not-triggered a.beliefs.now a.kind a.l a.failed a.number plan fresh kind missed)
 
 pub returns : goal.returns
@@ -35,6 +35,6 @@ returns c =
     let plan = plan_of a.bytes.now a.number in
     let fresh = sym c.has.ensures ∙ c.if-has.false in
     let kind = sym c.trigger_kind.ensures ∙ c.if-trigger_kind-kind.false in
-    let matched = ap (λ (t : Literal). triggered t a.l) (sym c.trigger-own.ensures) ∙ sym c.triggered_by.ensures ∙ c.in_ok-env.was in
+    let matched = ap (λ (t : Literal). triggered t a.l) (sym c.trigger.ensures) ∙ sym c.triggered_by.ensures ∙ c.in_ok-env.was in
     plan_starts a.beliefs.now a.kind a.l a.failed a.number plan fresh kind c.in_ok-env.env c.searched.result matched
-    (rw (← c.context_offset-context.ensures.value, ← c.trigger_least.ensures) c.searched.ensures)
+    (rw (← c.context_offset.ensures.value, ← c.trigger_least.ensures) c.searched.ensures)

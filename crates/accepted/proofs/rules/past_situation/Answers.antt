@@ -4,13 +4,13 @@ use Rattle.std.specs.Bool.{then_some}
 use Rattle.accepted.proofs.RuleLaws.{broken, situation-many, situation-few, situation_end_lem}
 use Rattle.accepted.proofs.rules.past_situation.Goals as goal
 
-pub returns-then-alternatives-gt-MOST_ITEMS-clause-value : goal.returns-then-alternatives-gt-MOST_ITEMS-clause-value
-returns-then-alternatives-gt-MOST_ITEMS-clause-value c =
-    broken _ _ (situation-many c.args.bytes.now c.args.at _ c.u16_at-alternatives.ensures c.if-alternatives-gt-MOST_ITEMS.true)
+pub returns-then-count-gt-MOST_ITEMS-clause-value : goal.returns-then-count-gt-MOST_ITEMS-clause-value
+returns-then-count-gt-MOST_ITEMS-clause-value c =
+    broken _ _ (situation-many c.args.bytes.now c.args.at _ c.u16_at-count.ensures c.if-count-gt-MOST_ITEMS.true)
 
 pub returns-clause-value : goal.returns-clause-value
 returns-clause-value c =
     let a = c.args in
-    let count = c.u16_at-alternatives.ensures in
+    let count = c.u16_at-count.ensures in
     c.past_alternatives.ensures.value
-    ∙ ap₂ then_some (situation-few a.bytes.now a.at _ count c.if-alternatives-gt-MOST_ITEMS.false) (situation_end_lem a.bytes.now a.at _ count)
+    ∙ ap₂ then_some (situation-few a.bytes.now a.at _ count c.if-count-gt-MOST_ITEMS.false) (situation_end_lem a.bytes.now a.at _ count)

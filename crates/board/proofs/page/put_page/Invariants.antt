@@ -7,7 +7,7 @@ use Rattle.writing.specs.Writing.{Wrote}
 use Rattle.board.specs.Page.{line_bytes, rows_of, page_of}
 use Rattle.board.proofs.page.put_page.Given as goal
 
-abbrev pub invariant-loop-done : goal.invariant-loop-done
-invariant-loop-done l =
+abbrev pub invariant-loop-i : goal.invariant-loop-i
+invariant-loop-i l =
     (length l.out ≡ length l.initial.out)
-    × Wrote (line_bytes * length (rows_of (take l.done (view_stacks l.s)))) l.initial.out l.out 0 l.o (page_of (take l.done (view_stacks l.s)))
+    × Wrote (line_bytes * length (rows_of (take l.i (view_stacks l.fn.s)))) l.initial.out l.out 0 l.o (page_of (take l.i (view_stacks l.fn.s)))

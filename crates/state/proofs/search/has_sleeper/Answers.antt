@@ -4,7 +4,7 @@ use borrow.Author.Tests.{tests}
 use mathlib.Core.Path.{sym, ◌∙◌}
 use Rattle.std.proofs.lemmas.Iterator.{YieldsList-from_slice}
 use Rattle.std.proofs.lemmas.Iterator.Search.{any_from_yields_List}
-use Rattle.lists.proofs.LoopLaws.{any-mapped}
+use Rattle.lists.proofs.MapLaws.{any-mapped}
 use Rattle.state.specs.Search.{is_asleep}
 use Rattle.state.specs.View.{view_stack}
 use Rattle.state.proofs.search.has_sleeper.Goals as goal

@@ -19,10 +19,10 @@ pub returns : goal.returns
 returns c = λ s e stands room.
     let a = c.args.self.now in
     let branch = c.args.branch in
-    let trial = c.attempt-trial.result in
-    let high : c.depth_of-height.result + 1 ≡ height_of (view_stack a.stack) = omega (arith, c.depth_of-height.ensures, length-down (depth_of a.stack) a.stack.below) in
-    let t : Tries a.beliefs (attempt (view a.beliefs) (height_of (view_stack a.stack)) a.stack.top.env branch) trial = rw high at c.attempt-trial.ensures in
+    let trial = c.attempt.result in
+    let high : c.depth-height.result + 1 ≡ height_of (view_stack a.stack) = omega (arith, c.depth-height.ensures, length-down (depth_of a.stack) a.stack.below) in
+    let t : Tries a.beliefs (attempt (view a.beliefs) (height_of (view_stack a.stack)) a.stack.top.env branch) trial = rw high at c.attempt.ensures in
     let alters = subst⁻¹ (λ (b : Beliefs). Alters b (changes_by (view_trial trial)) trial.altered) e (rw t.shown t.altered) in
-    let goes = rw (c.top_after-top.ensures, c.answer_to-answer.ensures, c.queue_after-queue.ensures) at c.ended.ensures in
+    let goes = rw (c.top_after.ensures, c.answer_to-answer.ensures, c.queue_after-queue.ensures) at c.ended.ensures in
     replies_as (ap (λ (y : Try). tried (view_state s) (placed a.place a.stack) branch y) t.shown)
     (tried_replies s a.place a.stack branch trial.altered c.ended.result stands (view_trial trial) alters (λ goal p. room goal (sym t.shown ∙ p)) goes)

@@ -1,0 +1,8 @@
+-- A literal's eight bytes as one number.
+-- No contract rests on this file: docs/changes/words.md names the law of words.
+use Rattle.std.specs.Prelude.{ℕ, ◌+◌, ◌*◌}
+use Rattle.literal.specs.declared.Literal.{Literal}
+
+-- the head lowest, then its terms in order
+unfoldable pub word : Literal → ℕ
+word l = ((l.third * 65536 + l.second) * 65536 + l.first) * 65536 + l.head
