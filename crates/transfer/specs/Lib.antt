@@ -1,3 +1,4 @@
+pub mod Content
 pub mod Opened
 pub mod Outcome
 pub mod Why

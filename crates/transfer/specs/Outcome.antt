@@ -1,6 +1,7 @@
--- What comes of a read or a write that failed (POSIX's read, write and errno).
+-- What comes of a read or a write (POSIX's read, write and errno).
 -- 0 bytes read are the input's end, and nothing else is: a call that failed has moved nothing and ended nothing.
-use Rattle.std.specs.Prelude.{ℕ, ℤ, pos, negsuc, cond, eqb, ⊤, Option, None, Some, Result, Ok, Err}
+use Rattle.std.specs.Prelude.{◌≡◌, ◌<◌, ℕ, ℤ, pos, negsuc, cond, eqb, ⊤, Option, None, Some, Result, Ok, Err}
+use Rattle.std.specs.IoError.{raw_os_error}
 use Rattle.std.specs.declared.io.Error.{Error}
 use Rattle.std.specs.declared.io.ErrorKind.{ErrorKind}
 use Rattle.std.specs.declared.io.ErrorKind.TheVariants as kind
@@ -30,3 +31,20 @@ would_block = 11
 unfoldable pub again_after : ℤ → Option Retry
 again_after (pos error) = cond (eqb error interrupted) (Some AtOnce) (cond (eqb error would_block) (Some AfterPause) None)
 again_after (negsuc error) = None
+
+-- ---- What std answers, as these numbers
+
+-- the system's number, or 0 of an error that the library made itself
+abbrev pub number_or_0 : Option ℤ → ℤ
+number_or_0 None = pos 0
+number_or_0 (Some number) = number
+
+abbrev pub error_number : Error → ℤ
+error_number error = number_or_0 (raw_os_error error)
+
+-- what a write answered, and what it counts as: one that takes nothing counts as one that would block
+abbrev pub OrWouldBlock : Result ℕ Error → Result ℕ Error → Type 0
+OrWouldBlock (Ok n) (Ok m) = (m ≡ n) × (0 < n)
+OrWouldBlock (Ok n) (Err error) = (n ≡ 0) × (error_number error ≡ pos would_block)
+OrWouldBlock (Err error) (Ok m) = ⊥
+OrWouldBlock (Err error) (Err same) = same ≡ error

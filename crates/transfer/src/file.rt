@@ -1,8 +1,9 @@
 // A file as a whole, read into a buffer.
-ghost use Rattle.std.specs.Prelude.{◌≡◌, ◌≤◌, length, IfOk, IfSome};
+ghost use Rattle.std.specs.Prelude.{◌≡◌};
+ghost use Rattle.transfer.specs.Content.{Holds, HoldsAll};
 ghost use Rattle.transfer.specs.Opened.{opened_by};
 
-use std::io::ErrorKind;
+use std::io::{ErrorKind, Read};
 use std::rt::{Clock, Files};
 use std::{fs, io, str};
 
@@ -22,10 +23,23 @@ fn opened_by<F: Drop>(answer: io::Result<F>) -> io::Result<Option<F>>
     }
 }
 
+// How many bytes of a file that is open are read: all of them, or as many as the buffer holds.
+fn read_open<C: Clock, F: Read>(
+    clock: &C,
+    file: &mut F,
+    buf: &mut [u8],
+) -> io::Result<Option<usize>>
+    ensures count { Holds result buf.new }
+    ensures bytes { HoldsAll result (F.remaining file.old) (F.remaining file.new) buf.new }
+{
+    let n = crate::read_full(clock, file, buf)?;
+    Ok(Some(n))
+}
+
 // How many of the file's bytes are read, as many as the buffer holds; or `None` where there is no such file.
 // A path that is no UTF-8 text names no file that can be opened.
 pub fn read_file<R: Files + Clock>(rt: &R, path: &[u8], buf: &mut [u8]) -> io::Result<Option<usize>>
-    ensures { IfOk result (λ read. IfSome read (λ n. n ≤ length buf.new)) }
+    ensures { Holds result buf.new }
 {
     let Ok(name) = str::from_utf8(path) else {
         return Err(io::Error::from_raw_os_error(INVALID));
@@ -33,6 +47,5 @@ pub fn read_file<R: Files + Clock>(rt: &R, path: &[u8], buf: &mut [u8]) -> io::R
     let Some(mut file) = opened_by(fs::open(rt, name))? else {
         return Ok(None);
     };
-    let n = crate::read_full(rt, &mut file, buf)?;
-    Ok(Some(n))
+    read_open(rt, &mut file, buf)
 }

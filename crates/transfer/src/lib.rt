@@ -12,7 +12,7 @@ ghost use Rattle.std.specs.Prelude.{◌≡◌, ◌<◌, length, take, IfOk, IfEr
 ghost use Rattle.std.specs.Io.{ReadsAtMost, WritesAtMost};
 ghost use Rattle.std.specs.Io.KnownBytes.{Appends, Consumes, IsAtEnd, ReadConsumes, WriteAppends};
 
-use outcome::settled;
+use outcome::{or_would_block, settled};
 use std::io;
 use std::io::{Read, Write};
 use std::rt::Clock;
@@ -77,19 +77,19 @@ impl From<Stopped> for io::Error {
 }
 
 // One write of a byte at least. One that takes nothing counts as one that would block.
+#[tactic(auto, using(crate::proofs::PartLaws::write_counts))]
 fn write_some<C: Clock, W: Write>(clock: &C, writer: &mut W, bytes: &[u8]) -> io::Result<usize>
     ensures count { WritesAtMost result bytes.now }
     ensures bytes { WriteAppends (W.contents writer.old) (W.contents writer.new) result bytes.now }
     ensures moved { IfOk result (λ n. 0 < n) }
 {
     for _ in 0..u64::MAX {
-        match writer.write(bytes) {
-            Ok(0) => pause::wait(clock),
+        match or_would_block(writer.write(bytes)) {
             Ok(n) => return Ok(n),
             Err(error) => settled(clock, error)?,
         }
     }
-    Err(io::Error::from(io::ErrorKind::WouldBlock))
+    or_would_block(writer.write(bytes))
 }
 
 // Writes all of the bytes, unless a write fails for good.

@@ -1,12 +1,15 @@
-// What comes of a read or a write that failed.
+// What comes of a read or a write, by what the system answered.
 ghost use Rattle.std.specs.Prelude.{◌≡◌};
 ghost use Rattle.std.specs.IoError.{error_kind};
-ghost use Rattle.transfer.specs.Outcome.{again_at, settled_by};
+ghost use Rattle.transfer.specs.Outcome.{again_at, settled_by, OrWouldBlock};
 
 use crate::pause;
 use std::io;
 use std::io::ErrorKind;
 use std::rt::Clock;
+
+// The number that Linux gives POSIX's EAGAIN.
+const WOULD_BLOCK: i32 = 11;
 
 // When the call is made again.
 #[derive(Clone, Copy, Debug, PartialEq, Eq)]
@@ -39,5 +42,16 @@ pub fn settled<C: Clock>(clock: &C, error: io::Error) -> io::Result<()>
             Ok(())
         }
         None => Err(error),
+    }
+}
+
+// A write that takes nothing counts as one that would block.
+pub(crate) fn or_would_block(put: io::Result<usize>) -> io::Result<usize>
+    ensures { OrWouldBlock put result }
+{
+    match put {
+        Ok(0) => Err(io::Error::from_raw_os_error(WOULD_BLOCK)),
+        Ok(n) => Ok(n),
+        Err(error) => Err(error),
     }
 }
