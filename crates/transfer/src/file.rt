@@ -3,21 +3,26 @@ ghost use Rattle.std.specs.Prelude.{◌≡◌};
 ghost use Rattle.transfer.specs.Content.{Holds, HoldsAll};
 ghost use Rattle.transfer.specs.Opened.{opened_by};
 
-use std::io::{ErrorKind, Read};
+use crate::outcome::error_number;
+use std::io::Read;
 use std::rt::{Clock, Files};
 use std::{fs, io, str};
 
 // The number that Linux gives POSIX's EINVAL.
 const INVALID: i32 = 22;
 
+// The number that Linux gives POSIX's ENOENT.
+const NO_SUCH_FILE: i32 = 2;
+
 // The file, or `None` where there is none, by what the system answered.
+#[tactic(auto, unfolding(crate::specs::Opened::not_opened))]
 fn opened_by<F: Drop>(answer: io::Result<F>) -> io::Result<Option<F>>
     ensures { result ≡ opened_by answer }
 {
     match answer {
         Ok(file) => Ok(Some(file)),
-        Err(error) => match error.kind() {
-            ErrorKind::NotFound => Ok(None),
+        Err(error) => match error_number(error) {
+            NO_SUCH_FILE => Ok(None),
             _ => Err(error),
         },
     }

@@ -1,15 +1,22 @@
 // What comes of a read or a write, by what the system answered.
 ghost use Rattle.std.specs.Prelude.{◌≡◌};
-ghost use Rattle.std.specs.IoError.{error_kind};
-ghost use Rattle.transfer.specs.Outcome.{again_at, settled_by, OrWouldBlock};
+ghost use Rattle.transfer.specs.Outcome.{again_after, error_number, settled_by, OrWouldBlock};
 
 use crate::pause;
 use std::io;
-use std::io::ErrorKind;
 use std::rt::Clock;
 
-// The number that Linux gives POSIX's EAGAIN.
+// The numbers that Linux gives POSIX's EINTR and EAGAIN.
+const INTERRUPTED: i32 = 4;
+
 const WOULD_BLOCK: i32 = 11;
+
+// The system's number of an error, or 0 where the library made the error itself.
+pub fn error_number(error: io::Error) -> i32
+    ensures { result ≡ error_number error }
+{
+    error.raw_os_error().unwrap_or(0)
+}
 
 // When the call is made again.
 #[derive(Clone, Copy, Debug, PartialEq, Eq)]
@@ -19,13 +26,14 @@ pub enum Retry {
 }
 
 impl Retry {
-    // A call that was interrupted is made again, and so is one that would block; no other is.
+    // A call that was interrupted is made again, and so is one that would block; no other is, nor one whose error has no number.
+    #[tactic(auto, unfolding(crate::specs::Outcome::again_after))]
     pub fn after(error: io::Error) -> Option<Retry>
-        ensures { result ≡ again_at (error_kind error) }
+        ensures { result ≡ again_after (error_number error) }
     {
-        match error.kind() {
-            ErrorKind::Interrupted => Some(Retry::AtOnce),
-            ErrorKind::WouldBlock => Some(Retry::AfterPause),
+        match error_number(error) {
+            INTERRUPTED => Some(Retry::AtOnce),
+            WOULD_BLOCK => Some(Retry::AfterPause),
             _ => None,
         }
     }
@@ -33,7 +41,7 @@ impl Retry {
 
 // The error of a call that is not made again; waits where it would have blocked.
 pub fn settled<C: Clock>(clock: &C, error: io::Error) -> io::Result<()>
-    ensures { result ≡ settled_by (again_at (error_kind error)) error }
+    ensures { result ≡ settled_by (again_after (error_number error)) error }
 {
     match Retry::after(error) {
         Some(Retry::AtOnce) => Ok(()),

@@ -10,11 +10,12 @@ use std::rt::Clock;
 use std::test::Fail;
 use std::time::Duration;
 
-// What a call answers: at most so many bytes, or the error of this number.
+// What a call answers: at most so many bytes, or the error of this number, or an error of this kind that has no number.
 #[derive(Clone, Copy)]
 enum Answer {
     Most(usize),
     Error(i32),
+    Made(io::ErrorKind),
 }
 
 // The answers in order; behind the last one a call moves no byte.
@@ -33,6 +34,7 @@ impl Planned {
         match answer {
             Some(Answer::Most(n)) => Ok(n.min(room)),
             Some(Answer::Error(number)) => Err(io::Error::from_raw_os_error(number)),
+            Some(Answer::Made(kind)) => Err(io::Error::from(kind)),
             None => Ok(0),
         }
     }
@@ -86,6 +88,8 @@ const INTERRUPTED: Answer = Answer::Error(4);
 const WOULD_BLOCK: Answer = Answer::Error(11);
 
 const FAILED: Answer = Answer::Error(5);
+
+const MADE: Answer = Answer::Made(io::ErrorKind::WouldBlock);
 
 const END: Answer = Answer::Most(0);
 
@@ -172,5 +176,29 @@ fn a_write_that_fails_ends_them(rt: HostRuntime) -> Result<(), Fail> {
     assert_eq!(rt; stopped.written, 3);
     assert_eq!(rt; writer.calls, 2);
     assert_eq!(rt; stopped.error.raw_os_error(), Some(5));
+    Ok(())
+}
+
+#[test]
+fn an_error_without_a_number_ends_both(rt: HostRuntime) -> Result<(), Fail> {
+    let clock = no_waits();
+    let mut reader = Planned {
+        answers: [MADE, Answer::Most(3), END, END, END, END],
+        calls: 0,
+    };
+    let mut buf = [0u8; 8];
+    let read = read_some(&clock, &mut reader, &mut buf);
+    let error = read.err().ok_or("no error is told")?;
+    assert_eq!(rt; Retry::after(error), None);
+    assert_eq!(rt; reader.calls, 1);
+    let mut writer = Planned {
+        answers: [Answer::Most(3), MADE, Answer::Most(9), END, END, END],
+        calls: 0,
+    };
+    let written = write_all(&clock, &mut writer, b"12345678");
+    let stopped = written.err().ok_or("no error is told")?;
+    assert_eq!(rt; stopped.written, 3);
+    assert_eq!(rt; writer.calls, 2);
+    assert_eq!(rt; clock.waited.get(), 0);
     Ok(())
 }
