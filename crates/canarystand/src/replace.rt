@@ -1,5 +1,5 @@
 // A file replaced by new bytes as a whole.
-use std::fs::{File, OpenFile};
+use std::fs::{OpenFile, OpenOptions};
 use std::io::Write;
 use std::rt::{Clock, Files};
 use std::{fs, io};
@@ -17,9 +17,13 @@ fn sync<C: Clock, F: OpenFile>(clock: &C, file: &F) -> io::Result<()> {
 }
 
 // A new file with these bytes, synced; one that has the name already loses it, and a name that is taken again is refused.
+// It is opened for writing alone.
 fn write_new<R: Files + Clock>(rt: &R, path: &str, bytes: &[u8]) -> io::Result<()> {
     let _ = fs::remove_file(rt, path);
-    let mut file = File::create_new(rt, path)?;
+    let mut file = OpenOptions::new()
+        .write(true)
+        .create_new(true)
+        .open(rt, path)?;
     transfer::write_all(rt, &mut file, bytes)?;
     sync(rt, &file)
 }
