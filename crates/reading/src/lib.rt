@@ -134,18 +134,17 @@ fn read_outcome(mut fields: Fields<'_>) -> Option<Spoken>
 }
 
 // What a line says.
-#[tactic(auto, unfolding(crate::specs::Call::call_of, crate::specs::Call::letter))]
+#[tactic(auto, using(crate::proofs::LongLines::long_unreadable, crate::proofs::LetterLaws::call_report, crate::proofs::LetterLaws::call_outcome), unfolding(crate::specs::Call::call_of, crate::specs::Call::letter))]
 pub fn read_call(line: &[u8]) -> Option<Spoken>
     ensures { meaning result ≡ call_of line.now }
 {
-    let mut fields = Fields::of(line);
-    match fields.next()? {
-        [b'C'] => match fields.next() {
-            None => Some(Spoken::Cycle),
-            Some(_) => None,
-        },
-        [b'P'] => read_report(fields),
-        [b'O'] => read_outcome(fields),
+    if MOST_LINE < line.len() {
+        return None;
+    }
+    match line {
+        [b'C'] => Some(Spoken::Cycle),
+        [b'P', b' ', rest @ ..] => read_report(Fields::of(rest)),
+        [b'O', b' ', rest @ ..] => read_outcome(Fields::of(rest)),
         _ => None,
     }
 }
