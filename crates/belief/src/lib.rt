@@ -61,7 +61,7 @@ pub struct Applied {
 fn is_among(l: Literal, beliefs: &[Literal]) -> bool
     ensures { result ≡ list_any (same l) beliefs.now }
 {
-    beliefs.contains(&l)
+    beliefs.iter().any(|held| l.is_same(*held))
 }
 
 // The place of the literal among the beliefs.
@@ -69,7 +69,7 @@ fn is_among(l: Literal, beliefs: &[Literal]) -> bool
 fn place_of(l: Literal, beliefs: &[Literal]) -> Option<usize>
     ensures { result ≡ position (same l) beliefs.now }
 {
-    beliefs.iter().position(|held| l == *held)
+    beliefs.iter().position(|held| l.is_same(*held))
 }
 
 // Whether the literal is ground, and no later one is the same or its opposite.

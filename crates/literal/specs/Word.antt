@@ -1,5 +1,5 @@
 -- A literal's eight bytes as one number.
--- No contract rests on this file: docs/changes/words.md names the law of words.
+-- Private vocabulary: no public contract rests on this file.
 use Rattle.std.specs.Prelude.{ℕ, ◌+◌, ◌*◌}
 use Rattle.literal.specs.declared.Literal.{Literal}
 
