@@ -5,7 +5,7 @@ use mathlib.Core.Bool.{Bool, true, false, not, ◌&&◌, ◌||◌}
 use mathlib.Core.List.{List, [], ◌∷◌}
 use native.Mathlib.Omega.{arith}
 use borrow.Author.Tests.{leb-true, eq-eqb, ne_eqb}
-use lib.ListN.{length, take, length-take, get_or}
+use lib.ListN.{length, get_or}
 use lib.Dec.{leb, eqb}
 use Rattle.lists.proofs.BoolLaws.{and_parts}
 use Rattle.std.specs.List.{range_with_len, list_all, list_any}
@@ -16,7 +16,7 @@ use Rattle.library.specs.Plan.{no_literal}
 use Rattle.library.specs.Layout.{plan_count, belief_count, plans_off, entry_off, entry_length, beliefs_of}
 use Rattle.library.proofs.PartLaws.{length-beliefs}
 use Rattle.library.proofs.RowLaws.{left_next, left_none, all_left}
-use Rattle.std.proofs.lemmas.List.{get_or_default, get_or-take, same_lists}
+use Rattle.std.proofs.lemmas.List.{get_or_default, same_lists}
 use Rattle.accepted.specs.Rules.{beliefs_ok}
 use Rattle.accepted.specs.Refusal.{contents_fit, packed_from, is_packed, plan_fits, plans_fit}
 
@@ -84,16 +84,13 @@ abbrev pub alike : Literal → Literal → Bool
 alike l m = same l m || opposed l m
 
 module _ (bytes : List ℕ) where
-  -- items that are the belief of their number, up to the number of beliefs
-  pub beliefs_made : (items : List Literal) (n : ℕ) → length items ≡ 64
-      → ((i : ℕ) (d : Literal) → i < 64 → get_or items i d ≡ get_or (beliefs_of bytes) i no_literal)
-      → n ≡ belief_count bytes → n ≤ 64 → take n items ≡ beliefs_of bytes
-  beliefs_made items n size each e few =
-      let count : n ≡ length (beliefs_of bytes) = e ∙ sym (length-beliefs bytes) in
-      let held : length (take n items) ≡ length (beliefs_of bytes) = simp length-take (omega arith) in
-      same_lists (take n items) (beliefs_of bytes) held (λ i d h.
-      let inside : i < n = omega arith in
-      get_or-take n items i d inside ∙ each i d (omega arith) ∙ get_or_default (beliefs_of bytes) i no_literal d (omega arith))
+  -- as many items as there are beliefs, each the belief of its number
+  pub beliefs_made : (items : List Literal) → length items ≡ belief_count bytes
+      → ((i : ℕ) → i < length items → get_or items i no_literal ≡ get_or (beliefs_of bytes) i no_literal) → items ≡ beliefs_of bytes
+  beliefs_made items size each =
+      let held : length items ≡ length (beliefs_of bytes) = size ∙ sym (length-beliefs bytes) in
+      same_lists items (beliefs_of bytes) held (λ i d h.
+      get_or_default items i d no_literal h ∙ each i h ∙ get_or_default (beliefs_of bytes) i no_literal d (omega arith))
 
 module _ (beliefs : List Literal) where
   pub ground_fails : list_all is_ground beliefs ≡ false → false ≡ beliefs_ok beliefs

@@ -10,11 +10,10 @@ ghost use Rattle.accepted.specs.Rules.{most_beliefs, beliefs_ok};
 use super::rules::plan_fits;
 use belief::MOST_BELIEFS;
 use library::MOST_PLANS;
-use library::bytes::LITERAL_BYTES;
+use library::bytes::{LITERAL_BYTES, no_literal};
 use library::contents::{ENTRY_BYTES, HEADER_BYTES, belief_count, plan_count};
 use library::plan::PlanRef;
 use literal::Literal;
-use std::array;
 
 // 1: the contents and the beliefs are there.
 #[tactic(auto, unfolding(crate::specs::Refusal::contents_fit, library::specs::Layout::plans_off))]
@@ -76,10 +75,11 @@ pub(crate) fn beliefs_ok(library: &[u8]) -> bool
     requires { belief_count library.now ≤ most_beliefs }
     ensures { result ≡ beliefs_ok (beliefs_of library.now) }
 {
-    let literals: [Literal; MOST_BELIEFS] = array::from_fn(|place| library::contents::belief(
-        library, place,
-    ));
-    let beliefs = &literals[..belief_count(library) as usize];
+    let mut literals = [no_literal(); MOST_BELIEFS];
+    let beliefs = &mut literals[..belief_count(library) as usize];
+    for (place, literal) in beliefs.iter_mut().enumerate() {
+        *literal = library::contents::belief(library, place);
+    }
     all_ground(beliefs) && all_apart(beliefs)
 }
 
