@@ -92,6 +92,14 @@ module _ (bytes : List ℕ) where
       same_lists items (beliefs_of bytes) held (λ i d h.
       get_or_default items i d no_literal h ∙ each i h ∙ get_or_default (beliefs_of bytes) i no_literal d (omega arith))
 
+  pub no_beliefs : belief_count bytes ≡ 0 → true ≡ beliefs_ok (beliefs_of bytes)
+  unfolding beliefs_ok distinct
+  no_beliefs none = rw (empty_by_length (beliefs_of bytes) (length-beliefs bytes ∙ none)) refl
+    where
+      empty_by_length : (xs : List Literal) → length xs ≡ 0 → xs ≡ []
+      empty_by_length [] h = refl
+      empty_by_length (x ∷ xs) h = absurd (omega arith)
+
 module _ (beliefs : List Literal) where
   pub ground_fails : list_all is_ground beliefs ≡ false → false ≡ beliefs_ok beliefs
   unfolding beliefs_ok

@@ -70,13 +70,17 @@ fn all_apart(beliefs: &[Literal]) -> bool
     true
 }
 
-// 3: the initial beliefs are ground and all different, with no opposites. They are read once, for all the pairs.
+// 3: the initial beliefs are ground and all different, with no opposites. They are read once, for all the pairs; for none no room is made.
 pub(crate) fn beliefs_ok(library: &[u8]) -> bool
     requires { belief_count library.now ≤ most_beliefs }
     ensures { result ≡ beliefs_ok (beliefs_of library.now) }
 {
+    let count = belief_count(library) as usize;
+    if count == 0 {
+        return true;
+    }
     let mut literals = [no_literal(); MOST_BELIEFS];
-    let beliefs = &mut literals[..belief_count(library) as usize];
+    let beliefs = &mut literals[..count];
     for (place, literal) in beliefs.iter_mut().enumerate() {
         *literal = library::contents::belief(library, place);
     }
