@@ -61,7 +61,7 @@ fn all_apart(beliefs: &[Literal]) -> bool
         let opposite = belief.opposite();
         if others
             .iter()
-            .any(|other| *belief == *other || opposite == *other)
+            .any(|other| belief.is_same(*other) || opposite.is_same(*other))
         {
             return false;
         }
