@@ -316,7 +316,7 @@ pub fn print_result(out: &mut [u8], at: usize, r: Answered) -> usize
         return at;
     }
     let n = r.count.min(MOST_CHANGES);
-    // By itself: lent out of the result, they would have the whole of it copied before its answer is read (1.3 to 1.5 times the time of a line).
+    // By itself: lent out of the result, they would have the whole of it copied before its answer is read.
     let changes = r.changes;
     let a = put_answer(out, at, r.answer);
     let b = put_changes(out, a, &changes[..n]);
