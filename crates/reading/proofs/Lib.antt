@@ -1,5 +1,6 @@
 pub mod FieldLaws
 pub mod NumberLaws
+pub mod ScanLaws
 pub mod LongLines
 pub mod LetterLaws
 pub mod PrintedLaws

@@ -3,8 +3,8 @@
 
 ghost use Rattle.std.specs.Prelude.{◌≡◌, ◌≤◌, IfSome};
 ghost use Rattle.literal.specs.Match.{and_then};
-ghost use Rattle.reading.specs.Call.{numeral, number, most_id_digits, largest_number, head_of, id_of, letter, worked_by, report_of, outcome_of, call_of};
-ghost use Rattle.reading.specs.Fields.{fields_left};
+ghost use Rattle.reading.specs.Call.{numeral, number, most_id_digits, largest_number, head_of, letter, worked_by, report_of, outcome_of, call_of};
+ghost use Rattle.reading.specs.Fields.{fields_left, Reads};
 ghost use Rattle.reading.specs.Spoken.{meaning};
 
 use crate::fields::Fields;
@@ -67,26 +67,6 @@ pub fn read_number(word: &[u8]) -> Option<u16>
     Some(read_numeral(word, MOST_DIGITS, LARGEST_NUMBER)? as u16)
 }
 
-// A sign and a predicate.
-#[tactic(auto, unfolding(crate::specs::Call::head_of))]
-fn read_head(field: &[u8]) -> Option<u16>
-    ensures { result ≡ head_of field.now }
-{
-    let (sign, text) = field.split_first()?;
-    let predicate = read_numeral(text, MOST_DIGITS, LARGEST_PREDICATE)?;
-    match sign {
-        b'+' => Some(predicate as u16),
-        b'-' => Some(predicate as u16 + NEGATIVE),
-        _ => None,
-    }
-}
-
-fn read_id(field: &[u8]) -> Option<Number>
-    ensures { result ≡ id_of field.now }
-{
-    read_numeral(field, MOST_ID_DIGITS, MOST_NUMBER)
-}
-
 #[tactic(auto, unfolding(crate::specs::Call::letter))]
 fn read_worked(field: &[u8]) -> Option<bool>
     ensures { result ≡ and_then (letter field.now) worked_by }
@@ -100,15 +80,35 @@ fn read_worked(field: &[u8]) -> Option<bool>
 
 // ---- Field by field
 
+// The next one, as a kind or a term.
+fn next_number(fields: &mut Fields<'_>) -> Option<u16>
+    ensures { Reads (number largest_number) fields.old result fields.new }
+{
+    Some(fields.numeral(MOST_DIGITS, LARGEST_NUMBER)? as u16)
+}
+
+// The next one, as a sign and a predicate.
+fn read_head(fields: &mut Fields<'_>) -> Option<u16>
+    ensures { Reads head_of fields.old result fields.new }
+{
+    let sign = fields.sign()?;
+    let predicate = fields.numeral(MOST_DIGITS, LARGEST_PREDICATE)?;
+    match sign {
+        b'+' => Some(predicate as u16),
+        b'-' => Some(predicate as u16 + NEGATIVE),
+        _ => None,
+    }
+}
+
 // What stands after P.
 fn read_report(mut fields: Fields<'_>) -> Option<Spoken>
     ensures { meaning result ≡ report_of (fields_left fields.entry) }
 {
-    let kind = read_number(fields.next()?)?;
-    let head = read_head(fields.next()?)?;
-    let first = read_number(fields.next()?)?;
-    let second = read_number(fields.next()?)?;
-    let third = read_number(fields.next()?)?;
+    let kind = next_number(&mut fields)?;
+    let head = read_head(&mut fields)?;
+    let first = next_number(&mut fields)?;
+    let second = next_number(&mut fields)?;
+    let third = next_number(&mut fields)?;
     if fields.next().is_some() {
         return None;
     }
@@ -125,7 +125,7 @@ fn read_report(mut fields: Fields<'_>) -> Option<Spoken>
 fn read_outcome(mut fields: Fields<'_>) -> Option<Spoken>
     ensures { meaning result ≡ outcome_of (fields_left fields.entry) }
 {
-    let id = read_id(fields.next()?)?;
+    let id = fields.numeral(MOST_ID_DIGITS, MOST_NUMBER)?;
     let worked = read_worked(fields.next()?)?;
     if fields.next().is_some() {
         return None;
